@@ -1,0 +1,23 @@
+use super::*;
+
+#[test]
+fn fits_below_the_limit(rt: HostRuntime) {
+    let most = (1 << 127) - 1;
+    for (left, right, shift, answer) in [
+        (most, 1, 0, true),
+        (1 << 127, 1, 0, false),
+        (1, most, 0, true),
+        (1 << 63, 1 << 63, 0, true),
+        (1 << 63, 1 << 64, 0, false),
+        (u128::MAX, u128::MAX, 0, false),
+        (0, u128::MAX, 120, true),
+        (127, 1, 120, true),
+        (128, 1, 120, false),
+    ] {
+        assert_eq!(rt;
+            fits(left, right, shift),
+            answer,
+            "at {left}, {right}, {shift}"
+        );
+    }
+}
