@@ -1,0 +1,241 @@
+-- Compositions as codes, and their quasi-shuffles.
+use Rattle.std.proofs.Common.{◌≡◌, ℕ, zero, suc, ◌+◌, ◌*◌, ◌^◌, ◌<◌, ◌≤◌, ◌⊎◌, Bool, true, false, ◌&&◌, List, [], ◌∷◌, ◌++◌, map, length, inl, inr, refl, subst, sym, ◌∙◌, ap, arith, length-append}
+use Rattle.std.specs.Prelude.{nat_le}
+use Rattle.std.proofs.Common.{take, drop, get_or, append_assoc, ◌-◌}
+use Rattle.std.proofs.lemmas.List.{length-map}
+use Rattle.std.proofs.Math.Nat.{pow-suc}
+use Rattle.std.proofs.lemmas.Nat.{pow-add}
+use Rattle.std.proofs.Math.IntN.{ℤ, pos, ◌+ℤ◌, ◌*ℤ◌, *ℤ_comm, *ℤ-one, one}
+use Rattle.std.proofs.lemmas.Int.{ints}
+use Rattle.linear_combos.specs.Lists.{int_sum}
+use Rattle.linear_combos.specs.Readings.{Terms}
+use Rattle.linear_combos.specs.Combos.{AddsTerm, HasKey}
+use Rattle.std.specs.List.{sum}
+use Rattle.std.proofs.lemmas.List.Sums.{sum_by-cons, sum_by-append}
+use Rattle.std.proofs.lemmas.Bool.Decides.{nat_tests}
+use Rattle.linear_combos.specs.Codes.{IsCode, all_letters}
+use Rattle.linear_combos.specs.Indices.{IsComposition}
+use Rattle.compositions.specs.QuasiShuffles.{quasi_shuffles, AddsShuffles, IsKeyOf}
+
+pub IsComposition-append : (j k : List ℕ) → IsComposition j → IsComposition k → IsComposition (j ++ k)
+IsComposition-append [] k hj hk = hk
+IsComposition-append (a ∷ j) k hj hk = (hj.0, IsComposition-append j k hj.1 hk)
+
+pub length-le-sum : (j : List ℕ) → IsComposition j → length j ≤ sum j
+length-le-sum [] h = omega arith
+length-le-sum (a ∷ j) h = omega (arith, sum_by-cons (λ x. x) a j, h.0, length-le-sum j h.1)
+
+letter : (x : ℕ) → 1 ≤ x → x ≤ 15 → (nat_le 1 x && nat_le x 15) ≡ true
+letter x a b = grind (arith, nat_tests)
+
+both : (p q : Bool) → p ≡ true → q ≡ true → (p && q) ≡ true
+both p q e f = rw (e, f)
+
+letters : (j : List ℕ) → IsComposition j → sum j ≤ 15 → all_letters j ≡ true
+letters [] h le = refl
+letters (a ∷ j) h le =
+    let all : sum (a ∷ j) ≡ a + sum j = sum_by-cons (λ x. x) a j in
+    both _ _ (letter a (omega (arith, h.0)) (omega arith)) (letters j h.1 (omega arith))
+
+pub code_from_composition : (j : List ℕ) → IsComposition j → sum j ≤ 15 → IsCode j
+code_from_composition j h le = record { short = omega (arith, length-le-sum j h); letters = letters j h le }
+
+pub code_from_two : (j k : List ℕ) → IsComposition j → IsComposition k → sum j + sum k ≤ 12 → IsCode (j ++ k)
+code_from_two j k hj hk le = code_from_composition (j ++ k) (IsComposition-append j k hj hk) (omega (arith, sum_by-append (λ x. x) j k))
+
+pub quasi_shuffles-nil : (j : List ℕ) → quasi_shuffles j [] ≡ j ∷ []
+quasi_shuffles-nil [] = refl
+quasi_shuffles-nil (a ∷ j) = refl
+
+-- a list without its first element, as a slice pattern gives it
+abbrev pub rest : List ℕ → List ℕ
+rest a = take (length a - 1) (drop 1 a)
+
+take_all : (a : List ℕ) (n : ℕ) → n ≡ length a → take n a ≡ a
+take_all [] zero e = refl
+take_all [] (suc n) e = refl
+take_all (x ∷ a) zero e = absurd (omega arith)
+take_all (x ∷ a) (suc n) e = ap (λ l. x ∷ l) (take_all a n (omega arith))
+
+pub rest-cons : (x : ℕ) (a : List ℕ) → rest (x ∷ a) ≡ a
+rest-cons x a = take_all a (suc (length a) - 1) (omega arith)
+
+pub parts : (a : List ℕ) → 1 ≤ length a → a ≡ get_or a 0 0 ∷ rest a
+parts [] le = absurd (omega arith)
+parts (x ∷ a) le = ap (λ l. x ∷ l) (sym (rest-cons x a))
+
+pub first_part : (a : List ℕ) → 1 ≤ length a → IsComposition a → 0 < get_or a 0 0
+first_part [] le h = absurd (omega arith)
+first_part (x ∷ a) le h = h.0
+
+pub rest_parts : (a : List ℕ) → 1 ≤ length a → IsComposition a → IsComposition (rest a)
+rest_parts [] le h = absurd (omega arith)
+rest_parts (x ∷ a) le h = rw (rest-cons x a) h.1
+
+pub one_more : (word : List ℕ) (x : ℕ) → IsComposition word → 0 < x → IsComposition (word ++ x ∷ [])
+one_more word x h lt = IsComposition-append word (x ∷ []) h (lt, tt)
+
+pub shuffles_parts : (a b : List ℕ) → 1 ≤ length a → 1 ≤ length b →
+    quasi_shuffles a b ≡ (map (λ w. get_or a 0 0 ∷ w) (quasi_shuffles (rest a) b) ++ map (λ w. get_or b 0 0 ∷ w) (quasi_shuffles a (rest b)))
+    ++ map (λ w. (get_or a 0 0 + get_or b 0 0) ∷ w) (quasi_shuffles (rest a) (rest b))
+shuffles_parts [] b la lb = absurd (omega arith)
+shuffles_parts (x ∷ a) [] la lb = absurd (omega arith)
+shuffles_parts (x ∷ a) (y ∷ b) la lb = rw (rest-cons x a, rest-cons y b)
+
+pub length-shuffles : (a b : List ℕ) → 1 ≤ length a → 1 ≤ length b →
+    length (quasi_shuffles a b) ≡ length (quasi_shuffles (rest a) b) + length (quasi_shuffles a (rest b)) + length (quasi_shuffles (rest a) (rest b))
+length-shuffles a b la lb = ap length (shuffles_parts a b la lb) ∙ simp (length-append, length-map)
+
+int_sum-append : (xs ys : List ℤ) → int_sum (xs ++ ys) ≡ int_sum xs +ℤ int_sum ys
+int_sum-append [] ys = omega (arith, ints)
+int_sum-append (x ∷ xs) ys = omega (arith, ints, int_sum-append xs ys)
+
+one_times : (z : ℤ) → pos 1 *ℤ z ≡ z
+unfolding one
+one_times z = *ℤ_comm (pos 1) z ∙ *ℤ-one z
+
+-- the weight of the words behind a word
+abbrev pub behind : (List (List ℕ) → ℤ) → List ℕ → List (List ℕ) → ℤ
+behind g word ws = int_sum (map (λ w. g ((word ++ w) ∷ [])) ws)
+
+behind-append : (g : List (List ℕ) → ℤ) (word : List ℕ) (xs ys : List (List ℕ)) → behind g word (xs ++ ys) ≡ behind g word xs +ℤ behind g word ys
+behind-append g word [] ys = omega (arith, ints)
+behind-append g word (x ∷ xs) ys = omega (arith, ints, behind-append g word xs ys)
+
+behind-first : (g : List (List ℕ) → ℤ) (word : List ℕ) (x : ℕ) (ws : List (List ℕ)) → behind g word (map (λ w. x ∷ w) ws) ≡ behind g (word ++ x ∷ []) ws
+behind-first g word x [] = refl
+behind-first g word x (w ∷ ws) =
+    let same : g ((word ++ x ∷ w) ∷ []) ≡ g (((word ++ x ∷ []) ++ w) ∷ []) = ap (λ v. g (v ∷ [])) (sym (append_assoc word (x ∷ []) w)) in
+    omega (arith, ints, behind-first g word x ws)
+
+pub sum_parts : (a : List ℕ) → 1 ≤ length a → sum a ≡ get_or a 0 0 + sum (rest a)
+sum_parts [] le = absurd (omega arith)
+sum_parts (x ∷ a) le = rw (rest-cons x a) (sum_by-cons (λ x. x) x a)
+
+pub sum_more : (word : List ℕ) (x : ℕ) → sum (word ++ x ∷ []) ≡ sum word + x
+sum_more word x = omega (arith, sum_by-append (λ x. x) word (x ∷ []))
+
+-- the key of a composition of one size is that of one of an equal size
+resized : (n m : ℕ) (key : List (List ℕ)) → n ≡ m → IsKeyOf n key → IsKeyOf m key
+resized n m key e h = subst (λ k. IsKeyOf k key) e h
+
+pub adds_parts : (old one two new : Terms) (word a b : List ℕ) → 1 ≤ length a → 1 ≤ length b
+    → AddsShuffles old one (word ++ get_or a 0 0 ∷ []) (rest a) b
+    → AddsShuffles one two (word ++ get_or b 0 0 ∷ []) a (rest b)
+    → AddsShuffles two new (word ++ (get_or a 0 0 + get_or b 0 0) ∷ []) (rest a) (rest b)
+    → AddsShuffles old new word a b
+adds_parts old one two new word a b la lb p q r = record {
+  weighs = λ g.
+      let x = map (λ w. get_or a 0 0 ∷ w) (quasi_shuffles (rest a) b) in
+      let y = map (λ w. get_or b 0 0 ∷ w) (quasi_shuffles a (rest b)) in
+      let z = map (λ w. (get_or a 0 0 + get_or b 0 0) ∷ w) (quasi_shuffles (rest a) (rest b)) in
+      let whole : behind g word (quasi_shuffles a b) ≡ behind g word ((x ++ y) ++ z) = ap (behind g word) (shuffles_parts a b la lb) in
+      omega (
+        arith,
+        ints,
+        whole,
+        behind-append g word (x ++ y) z,
+        behind-append g word x y,
+        behind-first g word (get_or a 0 0) (quasi_shuffles (rest a) b),
+        behind-first g word (get_or b 0 0) (quasi_shuffles a (rest b)),
+        behind-first g word (get_or a 0 0 + get_or b 0 0) (quasi_shuffles (rest a) (rest b)),
+        p.weighs g,
+        q.weighs g,
+        r.weighs g,
+      );
+  keys = λ key has.
+      let sa = sum_parts a la in
+      let sb = sum_parts b lb in
+      elim (r.keys key has) [
+        | inr new_key ↦ inr (resized _ _ key (omega (arith, sa, sb, sum_more word (get_or a 0 0 + get_or b 0 0))) new_key)
+        | inl has_two ↦ elim (q.keys key has_two) [
+          | inr new_key ↦ inr (resized _ _ key (omega (arith, sa, sb, sum_more word (get_or b 0 0))) new_key)
+          | inl has_one ↦ elim (p.keys key has_one) [
+            | inr new_key ↦ inr (resized _ _ key (omega (arith, sa, sb, sum_more word (get_or a 0 0))) new_key)
+            | inl has_old ↦ inl has_old
+          ]
+        ]
+      ];
+}
+
+-- one of the lists is empty
+pub shuffles_left : (a b : List ℕ) → length a ≡ 0 → quasi_shuffles a b ≡ b ∷ []
+shuffles_left [] b e = refl
+shuffles_left (x ∷ a) b e = absurd (omega arith)
+
+pub shuffles_right : (a b : List ℕ) → length b ≡ 0 → quasi_shuffles a b ≡ a ∷ []
+shuffles_right a [] e = quasi_shuffles-nil a
+shuffles_right a (x ∷ b) e = absurd (omega arith)
+
+-- one term, where there is one quasi-shuffle
+pub adds_one : (old new : Terms) (word a b c : List ℕ) → quasi_shuffles a b ≡ c ∷ [] → sum c ≡ sum a + sum b → IsComposition word → IsComposition c
+    → AddsTerm old new (pos 1) ((word ++ c) ∷ []) → AddsShuffles old new word a b
+adds_one old new word a b c e size hw hc h = record {
+  weighs = λ g.
+      let whole : behind g word (quasi_shuffles a b) ≡ behind g word (c ∷ []) = ap (behind g word) e in
+      omega (arith, ints, whole, h.weighs g, one_times (g ((word ++ c) ∷ [])));
+  keys = λ key has. elim (h.keys key has) [
+    | inl has_old ↦ inl has_old
+    | inr is ↦ inr (word ++ c, is, IsComposition-append word c hw hc, omega (arith, size, sum_by-append (λ x. x) word c))
+  ];
+}
+
+pow_positive : (n : ℕ) → 1 ≤ 3 ^ n
+pow_positive zero = omega arith
+pow_positive (suc n) = rw (pow-suc 3 n) (omega (arith, pow_positive n))
+
+-- how many quasi-shuffles there are at most
+pub shuffles_bound : (n : ℕ) (a b : List ℕ) → length a + length b ≤ n → length (quasi_shuffles a b) ≤ 3 ^ n
+shuffles_bound n [] b le = pow_positive n
+shuffles_bound n (x ∷ a) [] le = pow_positive n
+shuffles_bound zero (x ∷ a) (y ∷ b) le = absurd (omega arith)
+shuffles_bound (suc n) (x ∷ a) (y ∷ b) le =
+    let size : length (quasi_shuffles (x ∷ a) (y ∷ b)) ≡ length (quasi_shuffles a (y ∷ b)) + length (quasi_shuffles (x ∷ a) b) + length (quasi_shuffles a b) = simp (length-append, length-map) in
+    let one = shuffles_bound n a (y ∷ b) (omega arith) in
+    let two = shuffles_bound n (x ∷ a) b (omega arith) in
+    let three = shuffles_bound n a b (omega arith) in
+    rw (pow-suc 3 n) (omega (arith, size, one, two, three))
+
+-- 2 ^ (5n) grows by a factor of 32
+pow_five-suc : (n : ℕ) → 2 ^ (5 * suc n) ≡ 32 * 2 ^ (5 * n)
+pow_five-suc n = let e : 5 * suc n ≡ 5 + 5 * n = omega arith in ap (λ m. 2 ^ m) e ∙ pow-add 2 5 (5 * n)
+
+pow_three-le-pow_five : (n : ℕ) → 3 ^ n ≤ 2 ^ (5 * n)
+pow_three-le-pow_five zero = omega arith
+pow_three-le-pow_five (suc n) = rw (pow-suc 3 n, pow_five-suc n) (omega (arith, pow_three-le-pow_five n))
+
+pub shuffles_small : (n : ℕ) (a b : List ℕ) → length a + length b ≤ n → length (quasi_shuffles a b) ≤ 2 ^ (5 * n)
+shuffles_small n a b le = omega (arith, shuffles_bound n a b le, pow_three-le-pow_five n)
+
+-- the front of one part, as a slice
+pub first_slice : (a : List ℕ) → 1 ≤ length a → take 1 a ≡ get_or a 0 0 ∷ []
+first_slice [] le = absurd (omega arith)
+first_slice (x ∷ a) le = refl
+
+pub first-le-sum : (a : List ℕ) → 1 ≤ length a → get_or a 0 0 ≤ sum a
+first-le-sum a le = omega (arith, sum_parts a le)
+
+pub code_from_one_more : (word : List ℕ) (x : ℕ) → IsComposition word → 0 < x → sum word + x ≤ 12 → IsCode (word ++ x ∷ [])
+code_from_one_more word x h lt le = code_from_composition (word ++ x ∷ []) (one_more word x h lt) (omega (arith, sum_more word x))
+
+-- no part adds to nothing
+pub sum_of_none : (a : List ℕ) → length a ≡ 0 → sum a ≡ 0
+sum_of_none [] e = refl
+sum_of_none (x ∷ a) e = absurd (omega arith)
+
+-- letters are positive
+positive : (x : ℕ) → (nat_le 1 x && nat_le x 15) ≡ true → 0 < x
+positive x h = grind (arith, nat_tests)
+
+head_passes : (p q : Bool) → (p && q) ≡ true → p ≡ true
+head_passes true q h = refl
+head_passes false q h = h
+
+tail_passes : (p q : Bool) → (p && q) ≡ true → q ≡ true
+tail_passes true q h = h
+tail_passes false q h = absurd (cc)
+
+pub composition_from_letters : (xs : List ℕ) → all_letters xs ≡ true → IsComposition xs
+composition_from_letters [] h = tt
+composition_from_letters (x ∷ xs) h =
+    (positive x (head_passes _ (all_letters xs) h), composition_from_letters xs (tail_passes (nat_le 1 x && nat_le x 15) _ h))

@@ -1,0 +1,6 @@
+use Rattle.std.proofs.Common.{◌≡◌, ◌≤◌, length, arith, ◌∙◌, rules}
+use Rattle.compositions.proofs.Parts.{length-le-sum}
+use Rattle.compositions.proofs.composition.Composition.size.Goals as goal
+
+pub total-requires : goal.total-requires
+total-requires c = rw c.as_slice.ensures (omega (arith, length-le-sum _ c.self.invariant.positive, c.self.invariant.small))

@@ -1,0 +1,2 @@
+pub mod QuasiShuffles
+pub mod Sizes

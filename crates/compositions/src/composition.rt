@@ -1,0 +1,70 @@
+//! Compositions.
+ghost use Rattle.std.specs.Prelude.{◌≡◌, ◌≤◌, List, ℕ, length, sum, MatchOption};
+ghost use Rattle.compositions.specs.Sizes.{IsSmallComposition};
+
+use linear_combos::Code;
+use std::alloc::Global;
+use std::marker::Model;
+
+// The greatest size.
+const MOST: u32 = 12;
+
+/// A list of positive parts whose sum, the size, is at most 12. No call of a composition takes
+/// memory.
+#[derive(Drop)]
+pub struct Composition {
+    code: Code,
+}
+
+impl Model for Composition {
+    ghost use Rattle.std.specs.Prelude.{List, ℕ};
+    ghost use Rattle.compositions.specs.Sizes.{IsSmallComposition};
+
+    ghost Value = { List ℕ };
+
+    ghost view = { λ c. c.code };
+
+    ghost invariant = { λ c. IsSmallComposition c.code };
+}
+
+// The sum of the letters of a code.
+fn total(letters: &[u8]) -> u32
+    requires { length letters.now ≤ 15 }
+    ensures { result ≡ sum letters.now }
+{
+    let mut total = 0;
+    for letter in letters {
+        total += u32::from(*letter);
+    }
+    total
+}
+
+impl Composition {
+    /// The composition of these parts, or `None` exactly where one of them is 0 or their sum is more
+    /// than 12.
+    pub fn new(alloc: Global, parts: &[u8]) -> Option<Composition>
+        ensures { MatchOption result (IsSmallComposition parts.now → ⊥) (λ c. (c ≡ parts.now) × IsSmallComposition parts.now) }
+    {
+        let code = Code::new(alloc, parts)?;
+        if total(parts) > MOST {
+            return None;
+        }
+        Some(Composition { code })
+    }
+
+    /// The parts as a code.
+    pub fn code(&self) -> &Code
+        ensures value { result.now ≡ self.now }
+        ensures small { IsSmallComposition self.now }
+    {
+        &self.code
+    }
+
+    /// The sum of the parts, at most 12.
+    pub fn size(&self) -> u32
+        ensures value { result ≡ sum self.now }
+        ensures small { IsSmallComposition self.now }
+    {
+        total(self.code.as_slice())
+    }
+}

@@ -1,0 +1,7 @@
+pub mod Outcomes
+pub mod Products
+pub mod Statuses
+pub mod Text
+pub mod Tokens
+pub mod Values
+pub mod Words

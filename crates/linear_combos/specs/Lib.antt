@@ -1,0 +1,11 @@
+pub mod Answers
+pub mod Codes
+pub mod Combos
+pub mod Faults
+pub mod Indices
+pub mod Keys
+pub mod KeyOrder
+pub mod Lists
+pub mod Points
+pub mod Readings
+pub mod Rows

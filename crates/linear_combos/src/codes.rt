@@ -1,0 +1,54 @@
+//! Lists of codes.
+ghost use Rattle.std.specs.Prelude.{◌≡◌, ◌<◌, ◌++◌, ◌∷◌, [], ℕ, List, length, slice_index_or, OnOk, OnErr};
+
+use crate::Code;
+use hopf_num::OutOfMemory;
+use std::alloc::Global;
+use std::marker::Model;
+
+/// A list of codes.
+#[derive(Drop)]
+pub struct Codes {
+    items: Vec<Code>,
+}
+
+impl Model for Codes {
+    ghost Value = { List (List ℕ) };
+
+    ghost view = { λ c. c.items.items };
+}
+
+impl Codes {
+    /// No codes. It takes no memory.
+    pub fn new(alloc: Global) -> Codes
+        ensures { result ≡ [] }
+    {
+        Codes {
+            items: Vec::new(alloc),
+        }
+    }
+
+    /// Adds a code at the end. An error leaves the list as it was.
+    pub fn push(&mut self, code: Code) -> Result<(), OutOfMemory>
+        ensures ok { OnOk result (self.new ≡ self.old ++ code ∷ []) }
+        ensures err { OnErr result (self.new ≡ self.old) }
+    {
+        self.items.push(code)?;
+        Ok(())
+    }
+
+    /// How many codes there are.
+    pub fn len(&self) -> usize
+        ensures { result ≡ length self.now }
+    {
+        self.items.len()
+    }
+
+    /// The code at a place, counted from 0.
+    pub fn at(&self, index: usize) -> &Code
+        requires { index < length self.now }
+        ensures { result.now ≡ slice_index_or self.now index result.now }
+    {
+        &self.items[index]
+    }
+}

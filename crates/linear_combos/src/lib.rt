@@ -1,0 +1,19 @@
+//! Linear combinations of basis elements: codes of indices, keys, and sums of terms in canonical
+//! form.
+//!
+//! Its `specs/` define what a combination means: how often a basis element occurs at a point of its
+//! alphabet, and the reading of a combination and of operations on combinations at points.
+#![tactic(auto)]
+
+mod code;
+mod codes;
+mod combo;
+mod key;
+mod terms;
+#[cfg(test)]
+mod tests;
+
+pub use code::Code;
+pub use codes::Codes;
+pub use combo::{Combo, ComboFault};
+pub use key::Key;
