@@ -4,3 +4,6 @@ pub mod Place
 pub mod Ring
 pub mod Weights
 pub mod Sums
+pub mod Coefficients
+pub mod ClassBases
+pub mod Uniqueness

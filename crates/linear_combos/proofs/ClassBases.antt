@@ -1,0 +1,98 @@
+-- Class bases: each index has a representative, a point at which its element occurs and no other does.
+use Rattle.std.proofs.Common.{◌≡◌, ℕ, zero, suc, ◌*◌, Bool, true, false, ◌&&◌, List, [], ◌∷◌, length, refl, sym, ◌∙◌, ap, arith, inl, inr}
+use Rattle.std.specs.Prelude.{nat_eq}
+use Rattle.std.proofs.lemmas.Bool.{cases_lt}
+use Rattle.std.proofs.lemmas.Bool.Decides.{nat_tests}
+use Rattle.std.specs.declared.cmp.Ordering.{Ordering}
+use Rattle.std.specs.declared.cmp.Ordering.TheVariants.{Less, Equal, Greater}
+use Rattle.std.specs.Ordering.{nat_cmp, ordering_then}
+use Rattle.std.specs.Cmp.{nat_cmp_is}
+use Rattle.std.specs.Cmp.Lexicographic.{slice_cmp}
+use Rattle.linear_combos.specs.Lists.{same_list, one_if}
+use Rattle.linear_combos.specs.Points.{without_zeros}
+use Rattle.linear_combos.specs.Rows.{Row, qsym_m, occurs}
+use Rattle.linear_combos.specs.Indices.{IsComposition, IsIndex, AreIndices}
+use Rattle.linear_combos.specs.Readings.{occurrence}
+use Rattle.linear_combos.specs.Combos.{key_cmp}
+use Rattle.linear_combos.proofs.Coefficients.{Codes, counts}
+
+-- the representative of an index: of a composition, itself
+abbrev pub representative : Row → List ℕ → List ℕ
+representative qsym_m code = code
+
+-- the representatives of the codes of a key
+abbrev pub representatives : List Row → Codes → Codes
+representatives [] key = []
+representatives (row ∷ rows) [] = []
+representatives (row ∷ rows) (code ∷ key) = representative row code ∷ representatives rows key
+
+-- a composition has no zeros
+without_zeros-composition : (code : List ℕ) → IsComposition code → without_zeros code ≡ code
+without_zeros-composition [] h = refl
+without_zeros-composition (zero ∷ code) h = absurd (omega (arith, h.0))
+without_zeros-composition (suc n ∷ code) h = ap (λ p. suc n ∷ p) (without_zeros-composition code h.1)
+
+-- what each row owes: at the representative of an index its element alone occurs
+pub occurs-representative : (row : Row) (code index : List ℕ) → IsIndex row index → occurs row code (representative row index) ≡ same_list index code
+occurs-representative qsym_m code index h = ap (λ p. same_list p code) (without_zeros-composition index h)
+
+-- two tests that both hold count as their product
+one_if-and : (p q : Bool) → one_if (p && q) ≡ one_if p * one_if q
+one_if-and true true = refl
+one_if-and true false = refl
+one_if-and false true = refl
+one_if-and false false = refl
+
+-- an order by a first part and then a rest is equal where both are
+counts-then : (a b : Ordering) → counts (ordering_then a b) ≡ counts a * counts b
+counts-then Less b = omega arith
+counts-then Equal b = omega arith
+counts-then Greater b = omega arith
+
+-- the test of two letters, and their order
+one_if-nat_eq : (x y : ℕ) → one_if (nat_eq y x) ≡ counts (nat_cmp x y)
+one_if-nat_eq x y = elim (cases_lt x y) [
+  | inl less ↦
+    let no : nat_eq y x ≡ false = grind (arith, nat_tests) in
+    rw (no, ← nat_cmp_is x y Less less) refl
+  | inr over ↦ elim (cases_lt y x) [
+    | inl more ↦
+      let no : nat_eq y x ≡ false = grind (arith, nat_tests) in
+      rw (no, ← nat_cmp_is x y Greater more) refl
+    | inr under ↦
+      let same : x ≡ y = omega arith in
+      let yes : nat_eq y x ≡ true = grind (arith, nat_tests) in
+      rw (yes, ← nat_cmp_is x y Equal same) refl
+  ]
+]
+
+-- the test of two codes, and their order
+one_if-same_list : (c d : List ℕ) → one_if (same_list d c) ≡ counts (slice_cmp nat_cmp c d)
+one_if-same_list [] [] = refl
+one_if-same_list [] (y ∷ d) = refl
+one_if-same_list (x ∷ c) [] = refl
+one_if-same_list (x ∷ c) (y ∷ d) =
+    one_if-and (nat_eq y x) (same_list d c)
+    ∙ ap (λ n. n * one_if (same_list d c)) (one_if-nat_eq x y)
+    ∙ ap (λ n. counts (nat_cmp x y) * n) (one_if-same_list c d)
+    ∙ sym (counts-then (nat_cmp x y) (slice_cmp nat_cmp c d))
+
+-- at the representatives of a key this key alone occurs
+pub occurrence-representatives : (rows : List Row) (k key : Codes) → AreIndices rows k → AreIndices rows key
+    → occurrence rows k (representatives rows key) ≡ counts (key_cmp k key)
+occurrence-representatives [] [] [] h h' = refl
+occurrence-representatives [] (c ∷ k) key h h' = absurd h
+occurrence-representatives [] [] (d ∷ key) h h' = absurd h'
+occurrence-representatives (row ∷ rows) [] key h h' = absurd h
+occurrence-representatives (row ∷ rows) (c ∷ k) [] h h' = absurd h'
+occurrence-representatives (row ∷ rows) (c ∷ k) (d ∷ key) h h' =
+    let first : one_if (occurs row c (representative row d)) ≡ counts (slice_cmp nat_cmp c d) = ap one_if (occurs-representative row c d h'.0) ∙ one_if-same_list c d in
+    ap (λ n. n * occurrence rows k (representatives rows key)) first
+    ∙ ap (λ n. counts (slice_cmp nat_cmp c d) * n) (occurrence-representatives rows k key h.1 h'.1)
+    ∙ sym (counts-then (slice_cmp nat_cmp c d) (key_cmp k key))
+
+-- there is one representative for each row
+pub length-representatives : (rows : List Row) (key : Codes) → AreIndices rows key → length (representatives rows key) ≡ length rows
+length-representatives [] key h = refl
+length-representatives (row ∷ rows) [] h = absurd h
+length-representatives (row ∷ rows) (code ∷ key) h = omega (arith, length-representatives rows key h.1)
