@@ -53,16 +53,16 @@ counts-then Greater b = omega arith
 one_if-nat_eq : (x y : ℕ) → one_if (nat_eq y x) ≡ counts (nat_cmp x y)
 one_if-nat_eq x y = elim (cases_lt x y) [
   | inl less ↦
-    let no : nat_eq y x ≡ false = grind (arith, nat_tests) in
-    rw (no, ← nat_cmp_is x y Less less) refl
+      let no : nat_eq y x ≡ false = grind (arith, nat_tests) in
+      rw (no, ← nat_cmp_is x y Less less) refl
   | inr over ↦ elim (cases_lt y x) [
     | inl more ↦
-      let no : nat_eq y x ≡ false = grind (arith, nat_tests) in
-      rw (no, ← nat_cmp_is x y Greater more) refl
+        let no : nat_eq y x ≡ false = grind (arith, nat_tests) in
+        rw (no, ← nat_cmp_is x y Greater more) refl
     | inr under ↦
-      let same : x ≡ y = omega arith in
-      let yes : nat_eq y x ≡ true = grind (arith, nat_tests) in
-      rw (yes, ← nat_cmp_is x y Equal same) refl
+        let same : x ≡ y = omega arith in
+        let yes : nat_eq y x ≡ true = grind (arith, nat_tests) in
+        rw (yes, ← nat_cmp_is x y Equal same) refl
   ]
 ]
 

@@ -45,9 +45,10 @@ each_from P (t ∷ ts) h = (h 0 (omega arith), each_from P ts (λ i lt. h (suc i
 -- the two forms of rising keys
 pub rising_from : (ts : Terms) → HasRisingKeys ts → Rising ts
 rising_from [] h = tt
-rising_from (t ∷ ts) h =
-    (each_from (λ u. key_cmp t.1 u.1 ≡ Less) ts (λ i lt. h 0 (suc i) (omega arith) (omega arith)),
-    rising_from ts (λ i j lt le. h (suc i) (suc j) (omega arith) (omega arith)))
+rising_from (t ∷ ts) h = (
+  each_from (λ u. key_cmp t.1 u.1 ≡ Less) ts (λ i lt. h 0 (suc i) (omega arith) (omega arith)),
+  rising_from ts (λ i j lt le. h (suc i) (suc j) (omega arith) (omega arith)),
+)
 
 -- a key below one that is below all is below all
 above_less : (key key' : Codes) (ts : Terms) → key_cmp key key' ≡ Less → Each (λ u. key_cmp key' u.1 ≡ Less) ts → Each (λ u. key_cmp key u.1 ≡ Less) ts
@@ -104,8 +105,8 @@ same_terms P (t ∷ ts) (u ∷ us) rt ru et eu h = by_order (key_cmp t.1 u.1) re
         let num : t.0 ≡ u.0 = sym (coefficient-first t ts rt.0) ∙ h t.1 et.0.1 ∙ ap (coefficient (u ∷ us)) key ∙ coefficient-first u us ru.0 in
         let first : t ≡ u = λ i. (num i, key i) in
         let tails : ts ≡ us = rest (λ k p.
-            let weight : t.0 *ℤ pos (counts (key_cmp t.1 k)) ≡ u.0 *ℤ pos (counts (key_cmp u.1 k)) = ap (λ (v : ℤ × Codes). v.0 *ℤ pos (counts (key_cmp v.1 k))) first in
-            omega (arith, ints, weight, h k p)) in
+        let weight : t.0 *ℤ pos (counts (key_cmp t.1 k)) ≡ u.0 *ℤ pos (counts (key_cmp u.1 k)) = ap (λ (v : ℤ × Codes). v.0 *ℤ pos (counts (key_cmp v.1 k))) first in
+        omega (arith, ints, weight, h k p)) in
         λ i. first i ∷ tails i
 
 -- weights that are the same at each key weigh the same

@@ -28,9 +28,9 @@ pub unique_terms : (rows : List Row) (ts us : Terms) → AreTerms (length rows) 
 unique_terms rows ts us ht hu it iu alike =
     same_terms (AreIndices rows) ts us (rising_from ts ht.rising) (rising_from us hu.rising) (each_term rows ts ht it) (each_term rows us hu iu)
     (λ key h.
-        sym (numerator-representatives rows ts key it h)
-        ∙ alike (representatives rows key) (length-representatives rows key h)
-        ∙ numerator-representatives rows us key iu h)
+    sym (numerator-representatives rows ts key it h)
+    ∙ alike (representatives rows key) (length-representatives rows key h)
+    ∙ numerator-representatives rows us key iu h)
 
 -- whole combinations over the same bases that agree with one reading at all points have the same terms
 pub unique_reading : (rows : List Row) (r : Reading) (c d : Combination) → IsCanonical c.rank c.den c.terms → IsCanonical d.rank d.den d.terms
@@ -42,4 +42,4 @@ pub unique_reading : (rows : List Row) (r : Reading) (c d : Combination) → IsC
 unique_reading rows r c d hc hd rc rd dc dd positive ic id ac ad =
     unique_terms rows c.terms d.terms (subst (λ n. AreTerms n c.terms) rc hc.ordered) (subst (λ n. AreTerms n d.terms) rd hd.ordered) ic id
     (λ ps e. *ℤ-pos_cancel _ _ (denominator r) positive
-        (ac ps e ∙ ap (λ n. numerator r ps *ℤ pos n) (dc ∙ sym dd) ∙ sym (ad ps e)))
+    (ac ps e ∙ ap (λ n. numerator r ps *ℤ pos n) (dc ∙ sym dd) ∙ sym (ad ps e)))
