@@ -1,11 +1,60 @@
 //! The standard streams: the trusted edge, of whose content nothing is told.
-ghost use Rattle.std.specs.Prelude.{◌≡◌, ◌≤◌, ◌+◌, ◌^◌, min, true, None};
+ghost use Rattle.std.specs.Prelude.{◌≡◌, ◌<◌, ◌≤◌, ◌+◌, ◌^◌, min, length, true, None, IfOk};
+ghost use Rattle.std.specs.Io.{ReadsAtMost};
+ghost use Rattle.std.specs.Io.KnownBytes.{ReadConsumes, WriteAppends};
 ghost use Rattle.hopf_io.specs.Faults.{Rose};
 
 use crate::{Failed, Sink, Source};
-use std::io::{Read, Write};
+use std::io;
+use std::io::{ErrorKind, Read, Write};
 
-/// Standard input. It tells nothing of its content or of being steady.
+// Counts a fault.
+fn count_fault(faults: &mut u64) -> Failed
+    ensures later { faults.old ≤ faults.new }
+    ensures rose { Rose faults.old faults.new }
+{
+    *faults = faults.saturating_add(1);
+    Failed
+}
+
+// Reads once, and again where a signal interrupted the call.
+fn read_uninterrupted<R: Read>(reader: &mut R, buf: &mut [u8]) -> io::Result<usize>
+    ensures bound { ReadsAtMost result buf.new }
+    ensures bytes { ReadConsumes (R.remaining reader.old) (R.remaining reader.new) result buf.new }
+{
+    for _ in 0..u64::MAX {
+        match reader.read(buf) {
+            Ok(count) => return Ok(count),
+            Err(error) => {
+                if error.kind() != ErrorKind::Interrupted {
+                    return Err(error);
+                }
+            }
+        }
+    }
+    Err(io::Error::from(ErrorKind::Interrupted))
+}
+
+// Writes once, and again where a signal interrupted the call.
+fn write_uninterrupted<W: Write>(writer: &mut W, bytes: &[u8]) -> io::Result<usize>
+    ensures bound { IfOk result (λ n. n ≤ length bytes.now) }
+    ensures bytes { WriteAppends (W.contents writer.old) (W.contents writer.new) result bytes.now }
+{
+    for _ in 0..u64::MAX {
+        match writer.write(bytes) {
+            Ok(count) => return Ok(count),
+            Err(error) => {
+                if error.kind() != ErrorKind::Interrupted {
+                    return Err(error);
+                }
+            }
+        }
+    }
+    Err(io::Error::from(ErrorKind::Interrupted))
+}
+
+/// The standard input of a runtime. It tells what the runtime's reader tells of its content, which is
+/// nothing for the real one, and it does not tell that it is steady.
 #[derive(Drop)]
 pub struct StdSource<R: Input> {
     reader: R::Reader,
@@ -28,7 +77,7 @@ impl<R: Input> StdSource<R> {
 }
 
 impl<R: Input> Source for StdSource<R> {
-    ghost left = { λ _. None };
+    ghost left = { λ s. R.Reader.remaining s.reader };
 
     ghost faults = { λ s. s.faults };
 
@@ -45,21 +94,19 @@ impl<R: Input> Source for StdSource<R> {
     }
 
     fn read(&mut self, buf: &mut [u8]) -> Result<usize, Failed> {
-        match self.reader.read(buf) {
+        match read_uninterrupted(&mut self.reader, buf) {
             Ok(count) => {
                 self.given = self.given.saturating_add(count as u64);
                 Ok(count)
             }
-            Err(_) => {
-                self.faults = self.faults.saturating_add(1);
-                Err(Failed)
-            }
+            Err(_) => Err(count_fault(&mut self.faults)),
         }
     }
 }
 
-/// A writer of the standard library, such as standard output or standard error. It tells nothing
-/// of its content or of being steady.
+/// A writer of the standard library, such as standard output or standard error. It tells what the
+/// writer tells of its content, which is nothing for the real ones, and it does not tell that it is
+/// steady.
 #[derive(Drop)]
 pub struct StdSink<W: Write> {
     writer: W,
@@ -78,19 +125,10 @@ impl<W: Write + Drop> StdSink<W> {
             faults: 0,
         }
     }
-
-    // A real sink that takes nothing of a nonempty piece counts as a fault, too.
-    fn fault(&mut self) -> Failed
-        ensures later { self.old.faults ≤ self.new.faults }
-        ensures rose { Rose self.old.faults self.new.faults }
-    {
-        self.faults = self.faults.saturating_add(1);
-        Failed
-    }
 }
 
 impl<W: Write + Drop> Sink for StdSink<W> {
-    ghost taken = { λ _. None };
+    ghost taken = { λ s. W.contents s.writer };
 
     ghost faults = { λ s. s.faults };
 
@@ -102,14 +140,15 @@ impl<W: Write + Drop> Sink for StdSink<W> {
         self.faults
     }
 
+    // A write that takes nothing of these bytes is a fault, too.
     fn write(&mut self, bytes: &[u8]) -> Result<usize, Failed> {
-        match self.writer.write(bytes) {
-            Ok(0) => Err(self.fault()),
+        match write_uninterrupted(&mut self.writer, bytes) {
+            Ok(0) => Err(count_fault(&mut self.faults)),
             Ok(count) => {
                 self.is_flushed = false;
                 Ok(count)
             }
-            Err(_) => Err(self.fault()),
+            Err(_) => Err(count_fault(&mut self.faults)),
         }
     }
 
@@ -119,7 +158,7 @@ impl<W: Write + Drop> Sink for StdSink<W> {
                 self.is_flushed = true;
                 Ok(())
             }
-            Err(_) => Err(self.fault()),
+            Err(_) => Err(count_fault(&mut self.faults)),
         }
     }
 }
