@@ -1,6 +1,5 @@
 //! Prints values over `QSym.M`.
-ghost use Rattle.std.specs.Prelude.{◌≡◌, ◌++◌, ◌∷◌, [], length, OnOk, codes};
-ghost use Rattle.std.specs.Fmt.{decimal};
+ghost use Rattle.std.specs.Prelude.{◌≡◌, ◌++◌, ◌∷◌, [], length, OnOk};
 ghost use Rattle.linear_combos.specs.Rows.{qsym_m};
 ghost use Rattle.hopf.specs.Text.{name_of, spelled, comma_separated, coefficient_text, term_text, first_sign, later_sign, value_text};
 
@@ -65,9 +64,10 @@ fn joining_sign(num: i128) -> &'static [u8]
     if num < 0 { b" - " } else { b" + " }
 }
 
-/// Appends the text of a value over `QSym.M`: its terms in the order of their keys, or `0`.
+/// Appends the text of a value over `QSym.M`, of rank 1 and over 1: its terms in the order of their
+/// keys, or `0`.
 ///
-/// An error may leave a part of the text behind.
+/// An error may leave the front of the text behind.
 pub fn print_value(alloc: Global, combo: &Combo, out: &mut Bytes) -> Result<(), OutOfMemory>
     requires rank { combo.now.rank ≡ 1 }
     requires whole { combo.now.den ≡ 1 }
