@@ -1,0 +1,185 @@
+-- The lexemes of a product, and what is read from them.
+use Rattle.std.proofs.Common.{◌≡◌, ℕ, ◌+◌, ◌-◌, ◌*◌, ◌<◌, ◌≤◌, min, List, [], ◌∷◌, ◌++◌, map, length, get_or, take, drop, refl, sym, ◌∙◌, ap, subst, arith, append_assoc, drop-cons, add-one}
+use Rattle.std.proofs.Math.ListN.{drop_of_length-le}
+use Rattle.std.proofs.lemmas.List.{append-nil, map-append, take_more}
+use Rattle.hopf.specs.declared.product.Lexeme.{Lexeme}
+use Rattle.hopf.specs.declared.product.Lexeme.TheVariants as lexeme
+use Rattle.hopf.specs.declared.tokens.Token.{Token}
+use Rattle.hopf.specs.Tokens.{AreTokens}
+use Rattle.hopf.specs.Products.{number_from, lexemes_of, later_parts, list_lexemes, product_lexemes, AreLexemes, HasNoList, IsWithinLimit, IsElement, HasNoElement, IsLastFactor, IsProduct}
+use Rattle.hopf.proofs.TokenSteps.{tokens_once}
+
+-- Numbers of at least 255 stay so, whatever digits follow.
+same_small : (m n : ℕ) (digits : List ℕ) → min m 255 ≡ min n 255 → min (number_from m digits) 255 ≡ min (number_from n digits) 255
+same_small m n [] e = e
+same_small m n (digit ∷ digits) e = same_small (m * 10 + (digit - 48)) (n * 10 + (digit - 48)) digits (omega arith)
+
+-- One digit more of a value that stops at 255.
+pub digit_more : (value next : ℕ) (digits : List ℕ) (i : ℕ) → i < length digits → min (value * 10 + (get_or digits i 0 - 48)) 255 ≡ next
+    → min (number_from value (drop i digits)) 255 ≡ min (number_from next (drop (i + 1) digits)) 255
+digit_more value next digits i lt e =
+    let front : drop i digits ≡ get_or digits i 0 ∷ drop (i + 1) digits = rw (add-one, drop-cons digits i 0) in
+    ap (λ l. min (number_from value l) 255) front
+    ∙ same_small (value * 10 + (get_or digits i 0 - 48)) next (drop (i + 1) digits) (omega arith)
+
+pub digits_done : (value : ℕ) (digits : List ℕ) (i : ℕ) → value ≤ 255 → length digits ≤ i → min (number_from 0 digits) 255 ≡ min (number_from value (drop i digits)) 255 → value ≡ min (number_from 0 digits) 255
+digits_done value digits i small le e =
+    let none : drop i digits ≡ [] = drop_of_length-le digits le in
+    let last : min (number_from value (drop i digits)) 255 ≡ min value 255 = ap (λ l. min (number_from value l) 255) none in
+    omega (arith, e, last)
+
+-- The lexemes behind a list's first part tell its other parts, and what follows the list.
+later_parts_once : (a b : List ℕ) (x y : List Lexeme) → later_parts a ++ x ≡ later_parts b ++ y → (a ≡ b) × (x ≡ y)
+later_parts_once [] [] x y e = (refl, cc)
+later_parts_once [] (q ∷ b) x y e = absurd (cc)
+later_parts_once (p ∷ a) [] x y e = absurd (cc)
+later_parts_once (p ∷ a) (q ∷ b) x y e =
+    let heads : p ≡ q = cc in
+    let tails : later_parts a ++ x ≡ later_parts b ++ y = cc in
+    let rest = later_parts_once a b x y tails in
+    let same : a ≡ b = rest.0 in
+    (cc, rest.1)
+
+pub list_once : (a b : List ℕ) (x y : List Lexeme) → list_lexemes a ++ x ≡ list_lexemes b ++ y → (a ≡ b) × (x ≡ y)
+list_once [] [] x y e = (refl, cc)
+list_once [] (q ∷ b) x y e = absurd (cc)
+list_once (p ∷ a) [] x y e = absurd (cc)
+list_once (p ∷ a) (q ∷ b) x y e =
+    let heads : p ≡ q = cc in
+    let tails : later_parts a ++ x ≡ later_parts b ++ y = cc in
+    let rest = later_parts_once a b x y tails in
+    let same : a ≡ b = rest.0 in
+    (cc, rest.1)
+
+-- The first parts of the list that the lexemes begin with, if they begin with one, and the rest of the lexemes.
+pub record BeginsList (lexemes : List Lexeme) (parts : List ℕ) (rest : List Lexeme) : Type 0 where
+  pub ends : (more : List ℕ) (behind : List Lexeme) → rest ≡ later_parts more ++ behind → lexemes ≡ list_lexemes (parts ++ more) ++ behind
+  pub only : (all : List ℕ) (behind : List Lexeme) → lexemes ≡ list_lexemes all ++ behind → (more : List ℕ) × (rest ≡ later_parts more ++ behind)
+
+later_of_list : (first : ℕ) (rest : List Lexeme) (all : List ℕ) (behind : List Lexeme) → lexeme.Open ∷ lexeme.Number first ∷ rest ≡ list_lexemes all ++ behind → (more : List ℕ) × (rest ≡ later_parts more ++ behind)
+later_of_list first rest [] behind e = absurd (cc)
+later_of_list first rest (part ∷ parts) behind e = (parts, cc)
+
+pub begins_list : (first : ℕ) (rest : List Lexeme) → BeginsList (lexeme.Open ∷ lexeme.Number first ∷ rest) (first ∷ []) rest
+begins_list first rest = record { ends = λ more behind e. cc; only = later_of_list first rest }
+
+later_of_later : (part : ℕ) (rest : List Lexeme) (more : List ℕ) (behind : List Lexeme) → lexeme.Comma ∷ lexeme.Number part ∷ rest ≡ later_parts more ++ behind → (more : List ℕ) × (rest ≡ later_parts more ++ behind)
+later_of_later part rest [] behind e = absurd (cc)
+later_of_later part rest (q ∷ more) behind e = (more, cc)
+
+pub next_begins : (lexemes : List Lexeme) (parts : List ℕ) (part : ℕ) (rest next : List Lexeme) → BeginsList lexemes parts rest → rest ≡ lexeme.Comma ∷ lexeme.Number part ∷ next → BeginsList lexemes (parts ++ part ∷ []) next
+next_begins lexemes parts part rest next h front = record {
+  ends = λ more behind e.
+      let seen : rest ≡ later_parts (part ∷ more) ++ behind = cc in
+      rw append_assoc (h.ends (part ∷ more) behind seen);
+  only = λ all behind e. let found = h.only all behind e in later_of_later part next found.0 behind (sym front ∙ found.1);
+}
+
+pub ends_list : (lexemes : List Lexeme) (parts : List ℕ) (rest behind : List Lexeme) → BeginsList lexemes parts rest → rest ≡ lexeme.Close ∷ behind → lexemes ≡ list_lexemes parts ++ behind
+ends_list lexemes parts rest behind h e = subst (λ (ps : List ℕ). lexemes ≡ list_lexemes ps ++ behind) (append-nil parts) (h.ends [] behind e)
+
+nothing_later : (rest : List Lexeme) → ((part : ℕ) (more : List Lexeme) → rest ≡ lexeme.Comma ∷ lexeme.Number part ∷ more → ⊥) → ((more : List Lexeme) → rest ≡ lexeme.Close ∷ more → ⊥)
+    → (more : List ℕ) (behind : List Lexeme) → rest ≡ later_parts more ++ behind → ⊥
+nothing_later rest no_part no_end [] behind e = no_end behind e
+nothing_later rest no_part no_end (q ∷ more) behind e = no_part q (later_parts more ++ behind) e
+
+pub no_list : (lexemes : List Lexeme) (parts : List ℕ) (rest : List Lexeme) → BeginsList lexemes parts rest
+    → ((part : ℕ) (more : List Lexeme) → rest ≡ lexeme.Comma ∷ lexeme.Number part ∷ more → ⊥) → ((more : List Lexeme) → rest ≡ lexeme.Close ∷ more → ⊥) → HasNoList lexemes
+no_list lexemes parts rest h no_part no_end all behind e = let found = h.only all behind e in nothing_later rest no_part no_end found.0 behind found.1
+
+pub opens : (lexemes : List Lexeme) → ((more : List Lexeme) → lexemes ≡ lexeme.Open ∷ more → ⊥) → HasNoList lexemes
+opens lexemes h [] behind e = h _ e
+opens lexemes h (part ∷ parts) behind e = h _ e
+
+pub opens_part : (lexemes rest : List Lexeme) → lexemes ≡ lexeme.Open ∷ rest → ((more : List Lexeme) → rest ≡ lexeme.Close ∷ more → ⊥)
+    → ((part : ℕ) (more : List Lexeme) → rest ≡ lexeme.Number part ∷ more → ⊥) → HasNoList lexemes
+opens_part lexemes rest front no_end no_part [] behind e = no_end behind (cc)
+opens_part lexemes rest front no_end no_part (part ∷ parts) behind e = no_part part (later_parts parts ++ behind) (cc)
+
+-- No element stands where its basis, its list or its index is missing.
+pub no_basis : (lexemes : List Lexeme) → ((more : List Lexeme) → lexemes ≡ lexeme.Basis ∷ more → ⊥) → HasNoElement lexemes
+no_basis lexemes h index rest e = h _ e.spelled
+
+pub no_list_behind : (lexemes rest : List Lexeme) → lexemes ≡ lexeme.Basis ∷ rest → HasNoList rest → HasNoElement lexemes
+no_list_behind lexemes rest e h index more is = let s = is.spelled in h index more (cc)
+
+pub no_index : (lexemes rest more : List Lexeme) (parts : List ℕ) → lexemes ≡ lexeme.Basis ∷ rest → rest ≡ list_lexemes parts ++ more → (IsWithinLimit parts → ⊥) → HasNoElement lexemes
+no_index lexemes rest more parts e l h index behind is =
+    let s = is.spelled in
+    let same : list_lexemes index ++ behind ≡ list_lexemes parts ++ more = cc in
+    h (subst IsWithinLimit (list_once index parts behind more same).0 is.within)
+
+pub is_element : (lexemes rest more : List Lexeme) (parts index : List ℕ) → lexemes ≡ lexeme.Basis ∷ rest → rest ≡ list_lexemes parts ++ more → index ≡ parts → IsWithinLimit parts → IsElement lexemes index more
+is_element lexemes rest more parts index e l same within = record {
+  within = subst IsWithinLimit (sym same) within;
+  spelled = cc;
+}
+
+-- One element stands in front.
+pub element_once : (lexemes : List Lexeme) (a b : List ℕ) (x y : List Lexeme) → IsElement lexemes a x → IsElement lexemes b y → (a ≡ b) × (x ≡ y)
+element_once lexemes a b x y p q =
+    let s = p.spelled in
+    let t = q.spelled in
+    list_once a b x y (cc)
+
+-- The last factor of the lexemes that are missing.
+abbrev pub HasNoLastFactor : List Lexeme → Type 0
+HasNoLastFactor lexemes = (index : List ℕ) → IsLastFactor lexemes index → ⊥
+
+pub no_times : (lexemes : List Lexeme) → ((more : List Lexeme) → lexemes ≡ lexeme.Times ∷ more → ⊥) → HasNoLastFactor lexemes
+no_times lexemes h index is = h _ is.spelled
+
+element_of_factor : (lexemes rest : List Lexeme) (index : List ℕ) → lexemes ≡ lexeme.Times ∷ rest → IsLastFactor lexemes index → IsElement rest index (lexeme.End ∷ [])
+element_of_factor lexemes rest index e is = let s = is.spelled in record { within = is.within; spelled = cc }
+
+pub no_element_behind : (lexemes rest : List Lexeme) → lexemes ≡ lexeme.Times ∷ rest → HasNoElement rest → HasNoLastFactor lexemes
+no_element_behind lexemes rest e h index is = h index _ (element_of_factor lexemes rest index e is)
+
+pub no_end : (lexemes rest more : List Lexeme) (index : List ℕ) → lexemes ≡ lexeme.Times ∷ rest → IsElement rest index more → (more ≡ lexeme.End ∷ [] → ⊥) → HasNoLastFactor lexemes
+no_end lexemes rest more index e is h other last = h (element_once rest index other more _ is (element_of_factor lexemes rest other e last)).1
+
+pub is_last_factor : (lexemes rest more : List Lexeme) (index : List ℕ) → lexemes ≡ lexeme.Times ∷ rest → IsElement rest index more → more ≡ lexeme.End ∷ [] → IsLastFactor lexemes index
+is_last_factor lexemes rest more index e is last = let s = is.spelled in record { within = is.within; spelled = cc }
+
+-- The lexemes of the text of a product.
+spelled_of : (text : List ℕ) (lexemes : List Lexeme) (left right : List ℕ) → AreLexemes text lexemes → IsProduct text left right → lexemes ≡ product_lexemes left right
+spelled_of text lexemes left right h is =
+    let same : h.tokens ≡ is.tokens = tokens_once h.are_tokens is.are_tokens in
+    h.spelled ∙ ap (lexemes_of text) same ∙ is.spelled
+
+left_of_product : (text : List ℕ) (lexemes : List Lexeme) (left right : List ℕ) → AreLexemes text lexemes → IsProduct text left right → IsElement lexemes left (lexeme.Times ∷ lexeme.Basis ∷ (list_lexemes right ++ lexeme.End ∷ []))
+left_of_product text lexemes left right h is = record { within = is.left_index; spelled = spelled_of text lexemes left right h is }
+
+pub no_product : (text : List ℕ) (lexemes : List Lexeme) → AreLexemes text lexemes → HasNoElement lexemes → (left right : List ℕ) → IsProduct text left right → ⊥
+no_product text lexemes h none left right is = none left _ (left_of_product text lexemes left right h is)
+
+pub no_right : (text : List ℕ) (lexemes rest : List Lexeme) (index : List ℕ) → AreLexemes text lexemes → IsElement lexemes index rest → HasNoLastFactor rest → (left right : List ℕ) → IsProduct text left right → ⊥
+no_right text lexemes rest index h first none left right is =
+    none right (record { within = is.right_index; spelled = (element_once lexemes index left rest _ first (left_of_product text lexemes left right h is)).1 })
+
+pub is_product : (text : List ℕ) (lexemes rest : List Lexeme) (left right : List ℕ) → length text ≤ 65536 → AreLexemes text lexemes → IsElement lexemes left rest → IsLastFactor rest right → IsProduct text left right
+is_product text lexemes rest left right short h first last =
+    let a = first.spelled in
+    let b = last.spelled in
+    let c = h.spelled in record {
+      short = short;
+      left_index = first.within;
+      right_index = last.within;
+      tokens = h.tokens;
+      are_tokens = h.are_tokens;
+      spelled = cc;
+    }
+
+-- A text spells one product.
+pub product_once : (text l r l' r' : List ℕ) → IsProduct text l r → IsProduct text l' r' → (l ≡ l') × (r ≡ r')
+product_once text l r l' r' p q =
+    let lexemes : AreLexemes text (product_lexemes l r) = record { tokens = p.tokens; are_tokens = p.are_tokens; spelled = sym p.spelled } in
+    let first = element_once _ l l' _ _ (left_of_product text _ l r lexemes p) (left_of_product text _ l' r' lexemes q) in
+    let rest = first.1 in
+    let lists : list_lexemes r ++ lexeme.End ∷ [] ≡ list_lexemes r' ++ lexeme.End ∷ [] = cc in
+    (first.0, (list_once r r' _ _ lists).0)
+
+-- One token more.
+pub lexemes_more : (text : List ℕ) (tokens : List Token) (i : ℕ) (token : Token) → i < length tokens
+    → lexemes_of text (take (i + 1) tokens) ≡ lexemes_of text (take i tokens) ++ lexemes_of text (get_or tokens i token ∷ [])
+lexemes_more text tokens i token lt = ap (lexemes_of text) (take_more tokens i token lt) ∙ map-append _ (take i tokens) (get_or tokens i token ∷ [])
