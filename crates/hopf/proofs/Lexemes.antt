@@ -138,6 +138,10 @@ no_element_behind lexemes rest e h index is = h index _ (element_of_factor lexem
 pub no_end : (lexemes rest more : List Lexeme) (index : List ℕ) → lexemes ≡ lexeme.Times ∷ rest → IsElement rest index more → (more ≡ lexeme.End ∷ [] → ⊥) → HasNoLastFactor lexemes
 no_end lexemes rest more index e is h other last = h (element_once rest index other more _ is (element_of_factor lexemes rest other e last)).1
 
+pub not_last : (more rest : List Lexeme) → more ≡ lexeme.End ∷ rest → 0 < length rest → more ≡ lexeme.End ∷ [] → ⊥
+not_last more [] e lt same = omega arith
+not_last more (next ∷ rest) e lt same = cc
+
 pub is_last_factor : (lexemes rest more : List Lexeme) (index : List ℕ) → lexemes ≡ lexeme.Times ∷ rest → IsElement rest index more → more ≡ lexeme.End ∷ [] → IsLastFactor lexemes index
 is_last_factor lexemes rest more index e is last = let s = is.spelled in record { within = is.within; spelled = cc }
 
