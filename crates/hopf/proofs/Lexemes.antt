@@ -6,7 +6,8 @@ use Rattle.hopf.specs.declared.product.Lexeme.{Lexeme}
 use Rattle.hopf.specs.declared.product.Lexeme.TheVariants as lexeme
 use Rattle.hopf.specs.declared.tokens.Token.{Token}
 use Rattle.hopf.specs.Tokens.{AreTokens}
-use Rattle.hopf.specs.Products.{number_from, lexemes_of, later_parts, list_lexemes, product_lexemes, AreLexemes, HasNoList, IsWithinLimit, IsElement, HasNoElement, IsLastFactor, IsProduct}
+use Rattle.hopf.specs.Products.{number_from, lexemes_of, later_parts, list_lexemes, product_lexemes, IsWithinLimit, IsProduct}
+use Rattle.hopf.specs.ProductSteps.{AreLexemes, HasNoList, IsElement, HasNoElement, IsLastFactor, HasNoLastFactor}
 use Rattle.hopf.proofs.TokenSteps.{tokens_once}
 
 -- Numbers of at least 255 stay so, whatever digits follow.
@@ -87,33 +88,12 @@ pub no_list : (lexemes : List Lexeme) (parts : List ℕ) (rest : List Lexeme) �
     → ((part : ℕ) (more : List Lexeme) → rest ≡ lexeme.Comma ∷ lexeme.Number part ∷ more → ⊥) → ((more : List Lexeme) → rest ≡ lexeme.Close ∷ more → ⊥) → HasNoList lexemes
 no_list lexemes parts rest h no_part no_end all behind e = let found = h.only all behind e in nothing_later rest no_part no_end found.0 behind found.1
 
-pub opens : (lexemes : List Lexeme) → ((more : List Lexeme) → lexemes ≡ lexeme.Open ∷ more → ⊥) → HasNoList lexemes
-opens lexemes h [] behind e = h _ e
-opens lexemes h (part ∷ parts) behind e = h _ e
-
-pub opens_part : (lexemes rest : List Lexeme) → lexemes ≡ lexeme.Open ∷ rest → ((more : List Lexeme) → rest ≡ lexeme.Close ∷ more → ⊥)
-    → ((part : ℕ) (more : List Lexeme) → rest ≡ lexeme.Number part ∷ more → ⊥) → HasNoList lexemes
-opens_part lexemes rest front no_end no_part [] behind e = no_end behind (cc)
-opens_part lexemes rest front no_end no_part (part ∷ parts) behind e = no_part part (later_parts parts ++ behind) (cc)
-
--- No element stands where its basis, its list or its index is missing.
-pub no_basis : (lexemes : List Lexeme) → ((more : List Lexeme) → lexemes ≡ lexeme.Basis ∷ more → ⊥) → HasNoElement lexemes
-no_basis lexemes h index rest e = h _ e.spelled
-
-pub no_list_behind : (lexemes rest : List Lexeme) → lexemes ≡ lexeme.Basis ∷ rest → HasNoList rest → HasNoElement lexemes
-no_list_behind lexemes rest e h index more is = let s = is.spelled in h index more (cc)
-
+-- No element stands where its list is no index within the limit.
 pub no_index : (lexemes rest more : List Lexeme) (parts : List ℕ) → lexemes ≡ lexeme.Basis ∷ rest → rest ≡ list_lexemes parts ++ more → (IsWithinLimit parts → ⊥) → HasNoElement lexemes
 no_index lexemes rest more parts e l h index behind is =
     let s = is.spelled in
     let same : list_lexemes index ++ behind ≡ list_lexemes parts ++ more = cc in
     h (subst IsWithinLimit (list_once index parts behind more same).0 is.within)
-
-pub is_element : (lexemes rest more : List Lexeme) (parts index : List ℕ) → lexemes ≡ lexeme.Basis ∷ rest → rest ≡ list_lexemes parts ++ more → index ≡ parts → IsWithinLimit parts → IsElement lexemes index more
-is_element lexemes rest more parts index e l same within = record {
-  within = subst IsWithinLimit (sym same) within;
-  spelled = cc;
-}
 
 -- One element stands in front.
 pub element_once : (lexemes : List Lexeme) (a b : List ℕ) (x y : List Lexeme) → IsElement lexemes a x → IsElement lexemes b y → (a ≡ b) × (x ≡ y)
@@ -122,18 +102,8 @@ element_once lexemes a b x y p q =
     let t = q.spelled in
     list_once a b x y (cc)
 
--- The last factor of the lexemes that are missing.
-abbrev pub HasNoLastFactor : List Lexeme → Type 0
-HasNoLastFactor lexemes = (index : List ℕ) → IsLastFactor lexemes index → ⊥
-
-pub no_times : (lexemes : List Lexeme) → ((more : List Lexeme) → lexemes ≡ lexeme.Times ∷ more → ⊥) → HasNoLastFactor lexemes
-no_times lexemes h index is = h _ is.spelled
-
 element_of_factor : (lexemes rest : List Lexeme) (index : List ℕ) → lexemes ≡ lexeme.Times ∷ rest → IsLastFactor lexemes index → IsElement rest index (lexeme.End ∷ [])
 element_of_factor lexemes rest index e is = let s = is.spelled in record { within = is.within; spelled = cc }
-
-pub no_element_behind : (lexemes rest : List Lexeme) → lexemes ≡ lexeme.Times ∷ rest → HasNoElement rest → HasNoLastFactor lexemes
-no_element_behind lexemes rest e h index is = h index _ (element_of_factor lexemes rest index e is)
 
 pub no_end : (lexemes rest more : List Lexeme) (index : List ℕ) → lexemes ≡ lexeme.Times ∷ rest → IsElement rest index more → (more ≡ lexeme.End ∷ [] → ⊥) → HasNoLastFactor lexemes
 no_end lexemes rest more index e is h other last = h (element_once rest index other more _ is (element_of_factor lexemes rest other e last)).1
@@ -141,9 +111,6 @@ no_end lexemes rest more index e is h other last = h (element_once rest index ot
 pub not_last : (more rest : List Lexeme) → more ≡ lexeme.End ∷ rest → 0 < length rest → more ≡ lexeme.End ∷ [] → ⊥
 not_last more [] e lt same = omega arith
 not_last more (next ∷ rest) e lt same = cc
-
-pub is_last_factor : (lexemes rest more : List Lexeme) (index : List ℕ) → lexemes ≡ lexeme.Times ∷ rest → IsElement rest index more → more ≡ lexeme.End ∷ [] → IsLastFactor lexemes index
-is_last_factor lexemes rest more index e is last = let s = is.spelled in record { within = is.within; spelled = cc }
 
 -- The lexemes of the text of a product.
 spelled_of : (text : List ℕ) (lexemes : List Lexeme) (left right : List ℕ) → AreLexemes text lexemes → IsProduct text left right → lexemes ≡ product_lexemes left right
@@ -161,19 +128,6 @@ pub no_right : (text : List ℕ) (lexemes rest : List Lexeme) (index : List ℕ)
 no_right text lexemes rest index h first none left right is =
     none right (record { within = is.right_index; spelled = (element_once lexemes index left rest _ first (left_of_product text lexemes left right h is)).1 })
 
-pub is_product : (text : List ℕ) (lexemes rest : List Lexeme) (left right : List ℕ) → length text ≤ 65536 → AreLexemes text lexemes → IsElement lexemes left rest → IsLastFactor rest right → IsProduct text left right
-is_product text lexemes rest left right short h first last =
-    let a = first.spelled in
-    let b = last.spelled in
-    let c = h.spelled in record {
-      short = short;
-      left_index = first.within;
-      right_index = last.within;
-      tokens = h.tokens;
-      are_tokens = h.are_tokens;
-      spelled = cc;
-    }
-
 -- A text spells one product.
 pub product_once : (text l r l' r' : List ℕ) → IsProduct text l r → IsProduct text l' r' → (l ≡ l') × (r ≡ r')
 product_once text l r l' r' p q =
@@ -182,8 +136,3 @@ product_once text l r l' r' p q =
     let rest = first.1 in
     let lists : list_lexemes r ++ lexeme.End ∷ [] ≡ list_lexemes r' ++ lexeme.End ∷ [] = cc in
     (first.0, (list_once r r' _ _ lists).0)
-
--- One token more.
-pub lexemes_more : (text : List ℕ) (tokens : List Token) (i : ℕ) (token : Token) → i < length tokens
-    → lexemes_of text (take (i + 1) tokens) ≡ lexemes_of text (take i tokens) ++ lexemes_of text (get_or tokens i token ∷ [])
-lexemes_more text tokens i token lt = ap (lexemes_of text) (take_more tokens i token lt) ∙ map-append _ (take i tokens) (get_or tokens i token ∷ [])

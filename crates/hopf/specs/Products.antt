@@ -65,26 +65,3 @@ pub record IsProduct (text left right : List ℕ) : Type 0 where
   pub tokens : List Token
   pub are_tokens : AreTokens 1 text tokens
   pub spelled : lexemes_of text tokens ≡ product_lexemes left right
-
--- what the tokens of a text are in a product
-pub record AreLexemes (text : List ℕ) (lexemes : List Lexeme) : Type 0 where
-  pub tokens : List Token
-  pub are_tokens : AreTokens 1 text tokens
-  pub spelled : lexemes ≡ lexemes_of text tokens
-
--- no list stands in front
-abbrev pub HasNoList : List Lexeme → Type 0
-HasNoList lexemes = (parts : List ℕ) (more : List Lexeme) → lexemes ≡ list_lexemes parts ++ more → ⊥
-
--- the element of an index within the limit stands in front
-pub record IsElement (lexemes : List Lexeme) (index : List ℕ) (rest : List Lexeme) : Type 0 where
-  pub within : IsWithinLimit index
-  pub spelled : lexemes ≡ lexeme.Basis ∷ (list_lexemes index ++ rest)
-
-abbrev pub HasNoElement : List Lexeme → Type 0
-HasNoElement lexemes = (index : List ℕ) (rest : List Lexeme) → IsElement lexemes index rest → ⊥
-
--- `*`, the element of an index within the limit, and the end
-pub record IsLastFactor (lexemes : List Lexeme) (index : List ℕ) : Type 0 where
-  pub within : IsWithinLimit index
-  pub spelled : lexemes ≡ lexeme.Times ∷ lexeme.Basis ∷ (list_lexemes index ++ lexeme.End ∷ [])

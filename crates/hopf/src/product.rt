@@ -1,7 +1,8 @@
 //! Reads a product of two elements of `QSym.M` from the text of a statement.
 ghost use Rattle.std.specs.Prelude.{◌≡◌, ℕ, ◌≤◌, List, ◌∷◌, ◌++◌, min, length, IfOk, MatchOption};
 ghost use Rattle.hopf.specs.declared.product.Lexeme.{Lexeme};
-ghost use Rattle.hopf.specs.Products.{number_from, sign_lexeme as lexeme_of_sign, lexeme_of as lexeme_of_bytes, bytes_of, list_lexemes, AreLexemes, HasNoList, IsWithinLimit, IsElement, HasNoElement, IsLastFactor, IsProduct};
+ghost use Rattle.hopf.specs.Products.{number_from, sign_lexeme as lexeme_of_sign, lexeme_of as lexeme_of_bytes, bytes_of, list_lexemes, IsWithinLimit, IsProduct};
+ghost use Rattle.hopf.specs.ProductSteps.{AreLexemes, HasNoList, IsElement, HasNoElement, IsLastFactor, HasNoLastFactor};
 
 use crate::tokens::{Kind, Token, tokens};
 use compositions::Composition;
@@ -104,10 +105,9 @@ fn lexemes(alloc: Global, text: &[u8]) -> Result<Vec<Lexeme>, OutOfMemory>
 fn after(first: Lexeme, lexemes: &[Lexeme]) -> Option<&[Lexeme]>
     ensures { MatchOption result ((more : List Lexeme) → lexemes.now ≡ first ∷ more → ⊥) (λ rest. lexemes.now ≡ first ∷ rest.now) }
 {
-    if lexemes.len() > 0 && lexemes[0] == first {
-        Some(&lexemes[1..])
-    } else {
-        None
+    match lexemes {
+        [found, rest @ ..] if *found == first => Some(rest),
+        _ => None,
     }
 }
 
@@ -115,11 +115,8 @@ fn after(first: Lexeme, lexemes: &[Lexeme]) -> Option<&[Lexeme]>
 fn number(lexemes: &[Lexeme]) -> Option<(u8, &[Lexeme])>
     ensures { MatchOption result ((part : ℕ) (more : List Lexeme) → lexemes.now ≡ Lexeme.Number part ∷ more → ⊥) (λ found. lexemes.now ≡ Lexeme.Number found.0 ∷ found.1.now) }
 {
-    if lexemes.len() == 0 {
-        return None;
-    }
-    match lexemes[0] {
-        Lexeme::Number(part) => Some((part, &lexemes[1..])),
+    match lexemes {
+        [Lexeme::Number(part), rest @ ..] => Some((*part, rest)),
         _ => None,
     }
 }
@@ -200,7 +197,7 @@ fn element(
 
 // Reads `*` and an element, with which the text ends.
 fn factor(alloc: Global, lexemes: &[Lexeme]) -> Result<Option<Composition>, OutOfMemory>
-    ensures { IfOk result (λ found. MatchOption found ((index : List ℕ) → IsLastFactor lexemes.now index → ⊥) (λ index. IsLastFactor lexemes.now index)) }
+    ensures { IfOk result (λ found. MatchOption found (HasNoLastFactor lexemes.now) (λ index. IsLastFactor lexemes.now index)) }
 {
     let Some(rest) = after(Lexeme::Times, lexemes) else {
         return Ok(None);

@@ -2,7 +2,7 @@ use Rattle.std.proofs.Common.{◌≡◌, ◌<◌, ◌∷◌, [], List, length, a
 use Rattle.std.proofs.lemmas.Option.{MatchOption-at_some}
 use Rattle.hopf.specs.declared.product.Lexeme.{Lexeme}
 use Rattle.hopf.specs.declared.product.Lexeme.TheVariants as lexeme
-use Rattle.hopf.specs.Products.{IsElement}
+use Rattle.hopf.specs.ProductSteps.{IsElement}
 use Rattle.hopf.proofs.Lexemes.{no_end, not_last}
 use Rattle.hopf.proofs.product.factor.Goals as goal
 

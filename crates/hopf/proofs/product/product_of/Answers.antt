@@ -1,7 +1,7 @@
 use Rattle.std.proofs.Common.{◌≡◌}
 use Rattle.std.proofs.lemmas.Option.{MatchOption-at_some, MatchOption-at_none}
-use Rattle.hopf.specs.Products.{IsElement, HasNoElement}
-use Rattle.hopf.proofs.Lexemes.{HasNoLastFactor, no_product, no_right}
+use Rattle.hopf.specs.ProductSteps.{IsElement, HasNoElement, HasNoLastFactor}
+use Rattle.hopf.proofs.Lexemes.{no_product, no_right}
 use Rattle.hopf.proofs.product.product_of.Goals as goal
 
 pub returns-in_default : goal.returns-in_default
