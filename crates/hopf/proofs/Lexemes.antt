@@ -108,10 +108,6 @@ element_of_factor lexemes rest index e is = let s = is.spelled in record { withi
 pub no_end : (lexemes rest more : List Lexeme) (index : List ℕ) → lexemes ≡ lexeme.Times ∷ rest → IsElement rest index more → (more ≡ lexeme.End ∷ [] → ⊥) → HasNoLastFactor lexemes
 no_end lexemes rest more index e is h other last = h (element_once rest index other more _ is (element_of_factor lexemes rest other e last)).1
 
-pub not_last : (more rest : List Lexeme) → more ≡ lexeme.End ∷ rest → 0 < length rest → more ≡ lexeme.End ∷ [] → ⊥
-not_last more [] e lt same = omega arith
-not_last more (next ∷ rest) e lt same = cc
-
 -- The lexemes of the text of a product.
 spelled_of : (text : List ℕ) (lexemes : List Lexeme) (left right : List ℕ) → AreLexemes text lexemes → IsProduct text left right → lexemes ≡ product_lexemes left right
 spelled_of text lexemes left right h is =

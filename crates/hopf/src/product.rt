@@ -1,5 +1,5 @@
 //! Reads a product of two elements of `QSym.M` from the text of a statement.
-ghost use Rattle.std.specs.Prelude.{◌≡◌, ℕ, ◌≤◌, List, ◌∷◌, ◌++◌, min, length, IfOk, MatchOption};
+ghost use Rattle.std.specs.Prelude.{◌≡◌, ℕ, ◌≤◌, ◌↔◌, List, [], ◌∷◌, ◌++◌, min, length, IfOk, MatchOption, IsTrue};
 ghost use Rattle.hopf.specs.declared.product.Lexeme.{Lexeme};
 ghost use Rattle.hopf.specs.Products.{number_from, sign_lexeme as lexeme_of_sign, lexeme_of as lexeme_of_bytes, bytes_of, list_lexemes, IsWithinLimit, IsProduct};
 ghost use Rattle.hopf.specs.ProductSteps.{AreLexemes, HasNoList, IsElement, HasNoElement, IsLastFactor, HasNoLastFactor};
@@ -195,6 +195,13 @@ fn element(
     Ok(Some((index, rest)))
 }
 
+// Whether nothing is left but the end.
+fn is_end(lexemes: &[Lexeme]) -> bool
+    ensures { IsTrue result ↔ (lexemes.now ≡ Lexeme.End ∷ []) }
+{
+    matches!(lexemes, [Lexeme::End])
+}
+
 // Reads `*` and an element, with which the text ends.
 fn factor(alloc: Global, lexemes: &[Lexeme]) -> Result<Option<Composition>, OutOfMemory>
     ensures { IfOk result (λ found. MatchOption found (HasNoLastFactor lexemes.now) (λ index. IsLastFactor lexemes.now index)) }
@@ -205,10 +212,7 @@ fn factor(alloc: Global, lexemes: &[Lexeme]) -> Result<Option<Composition>, OutO
     let Some((index, rest)) = element(alloc, rest)? else {
         return Ok(None);
     };
-    let Some(rest) = after(Lexeme::End, rest) else {
-        return Ok(None);
-    };
-    if rest.len() > 0 {
+    if !is_end(rest) {
         return Ok(None);
     }
     Ok(Some(index))
