@@ -1,11 +1,9 @@
 -- The lexemes of a product, and what is read from them.
-use Rattle.std.proofs.Common.{◌≡◌, ℕ, ◌+◌, ◌-◌, ◌*◌, ◌<◌, ◌≤◌, min, List, [], ◌∷◌, ◌++◌, map, length, get_or, take, drop, refl, sym, ◌∙◌, ap, subst, arith, append_assoc, drop-cons, add-one}
+use Rattle.std.proofs.Common.{◌≡◌, ℕ, ◌+◌, ◌-◌, ◌*◌, ◌<◌, ◌≤◌, min, List, [], ◌∷◌, ◌++◌, length, get_or, drop, refl, sym, ◌∙◌, ap, subst, arith, append_assoc, drop-cons, add-one}
 use Rattle.std.proofs.Math.ListN.{drop_of_length-le}
-use Rattle.std.proofs.lemmas.List.{append-nil, map-append, take_more}
+use Rattle.std.proofs.lemmas.List.{append-nil}
 use Rattle.hopf.specs.declared.product.Lexeme.{Lexeme}
 use Rattle.hopf.specs.declared.product.Lexeme.TheVariants as lexeme
-use Rattle.hopf.specs.declared.tokens.Token.{Token}
-use Rattle.hopf.specs.Tokens.{AreTokens}
 use Rattle.hopf.specs.Products.{number_from, lexemes_of, later_parts, list_lexemes, product_lexemes, IsWithinLimit, IsProduct}
 use Rattle.hopf.specs.ProductSteps.{AreLexemes, HasNoList, IsElement, HasNoElement, IsLastFactor, HasNoLastFactor}
 use Rattle.hopf.proofs.TokenSteps.{tokens_once}
@@ -56,13 +54,6 @@ list_once (p ∷ a) (q ∷ b) x y e =
 pub record BeginsList (lexemes : List Lexeme) (parts : List ℕ) (rest : List Lexeme) : Type 0 where
   pub ends : (more : List ℕ) (behind : List Lexeme) → rest ≡ later_parts more ++ behind → lexemes ≡ list_lexemes (parts ++ more) ++ behind
   pub only : (all : List ℕ) (behind : List Lexeme) → lexemes ≡ list_lexemes all ++ behind → (more : List ℕ) × (rest ≡ later_parts more ++ behind)
-
-later_of_list : (first : ℕ) (rest : List Lexeme) (all : List ℕ) (behind : List Lexeme) → lexeme.Open ∷ lexeme.Number first ∷ rest ≡ list_lexemes all ++ behind → (more : List ℕ) × (rest ≡ later_parts more ++ behind)
-later_of_list first rest [] behind e = absurd (cc)
-later_of_list first rest (part ∷ parts) behind e = (parts, cc)
-
-pub begins_list : (first : ℕ) (rest : List Lexeme) → BeginsList (lexeme.Open ∷ lexeme.Number first ∷ rest) (first ∷ []) rest
-begins_list first rest = record { ends = λ more behind e. cc; only = later_of_list first rest }
 
 later_of_later : (part : ℕ) (rest : List Lexeme) (more : List ℕ) (behind : List Lexeme) → lexeme.Comma ∷ lexeme.Number part ∷ rest ≡ later_parts more ++ behind → (more : List ℕ) × (rest ≡ later_parts more ++ behind)
 later_of_later part rest [] behind e = absurd (cc)

@@ -1,6 +1,4 @@
-use Rattle.std.proofs.Common.{◌∙◌, ◌≡◌, ◌∷◌, ◌++◌, [], List, ℕ, subst, sym}
-use Rattle.hopf.specs.declared.product.Lexeme.TheVariants.{Open, Number}
-use Rattle.hopf.proofs.Lexemes.{BeginsList, begins_list, next_begins, ends_list, no_list}
+use Rattle.hopf.proofs.Lexemes.{next_begins, ends_list, no_list}
 use Rattle.hopf.proofs.product.list_from.Goals as goal
 
 pub loop-part-preserved : goal.loop-part-preserved

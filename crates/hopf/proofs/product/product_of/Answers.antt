@@ -1,5 +1,4 @@
-use Rattle.std.proofs.Common.{◌≡◌}
-use Rattle.std.proofs.lemmas.Option.{MatchOption-at_some, MatchOption-at_none}
+use Rattle.std.proofs.lemmas.Option.{MatchOption-at_some}
 use Rattle.hopf.specs.ProductSteps.{IsElement, HasNoElement, HasNoLastFactor}
 use Rattle.hopf.proofs.Lexemes.{no_product, no_right}
 use Rattle.hopf.proofs.product.product_of.Goals as goal

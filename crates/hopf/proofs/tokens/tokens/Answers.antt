@@ -1,6 +1,4 @@
-use Rattle.std.proofs.Common.{rules, ◌≡◌, ℕ, ◌+◌, ◌<◌, ◌≤◌, List, [], ◌∷◌, ◌++◌, length, drop, sym, ◌∙◌, ap, subst, arith, append_assoc}
-use Rattle.hopf.specs.declared.tokens.Token.{Token}
-use Rattle.hopf.specs.Tokens.{AreTokens}
+use Rattle.std.proofs.Common.{sym, ◌∙◌, arith, append_assoc}
 use Rattle.hopf.proofs.TokenSteps.{tokens-blank, tokens-next, tokens-end}
 use Rattle.hopf.proofs.tokens.tokens.Goals as goal
 

@@ -1,4 +1,4 @@
-use Rattle.std.proofs.Common.{◌≡◌, ◌≤◌, ◌+◌, ◌-◌, ◌++◌, length, drop, List}
+use Rattle.std.proofs.Common.{◌≤◌, ◌+◌, ◌-◌, ◌++◌, length, drop, List}
 use Rattle.hopf.specs.declared.tokens.Token.{Token}
 use Rattle.hopf.specs.Tokens.{AreTokens}
 use Rattle.hopf.proofs.tokens.tokens.Given as goal
