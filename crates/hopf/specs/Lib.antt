@@ -1,4 +1,5 @@
 pub mod Outcomes
+pub mod ProductSteps
 pub mod Products
 pub mod Statuses
 pub mod Text
