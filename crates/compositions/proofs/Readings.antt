@@ -5,7 +5,7 @@ use Rattle.std.proofs.lemmas.Int.{ints}
 use Rattle.std.specs.List.{flat_map}
 use Rattle.std.specs.List.{sum}
 use Rattle.linear_combos.specs.Answers.{IsAnswer}
-use Rattle.linear_combos.specs.Combos.{Combination, HasKey, norm_of}
+use Rattle.linear_combos.specs.Combos.{Combination, IsCanonical, HasKey, norm_of}
 use Rattle.linear_combos.specs.Indices.{IsComposition, AreIndices, total_degree}
 use Rattle.linear_combos.specs.Lists.{int_sum}
 use Rattle.linear_combos.specs.Points.{exponent_cuts}
@@ -65,10 +65,11 @@ at_one_point P h (p ∷ []) e = h p
 at_one_point P h (p ∷ q ∷ ps) e = absurd (omega arith)
 
 -- the sum of the quasi-shuffles is the answer of the product of two elements
-pub shuffles_answer : (j k : List ℕ) (c : Combination) → IsComposition j → IsComposition k → c.rank ≡ 1 → c.den ≡ 1
+pub shuffles_answer : (j k : List ℕ) (c : Combination) → IsCanonical c.rank c.den c.terms → IsComposition j → IsComposition k → c.rank ≡ 1 → c.den ≡ 1
     → norm_of c.terms ≤ length (quasi_shuffles j k) → AddsShuffles [] c.terms [] j k
     → IsAnswer (qsym_m ∷ []) (sum j + sum k) (product (element qsym_m j) (element qsym_m k)) c
-shuffles_answer j k c hj hk rank whole norm h = record {
+shuffles_answer j k c canonical hj hk rank whole norm h = record {
+  canonical = canonical;
   rank = rank;
   whole = whole;
   small = omega (arith, norm, shuffles_small (sum j + sum k) j k (omega (arith, length-le-sum j hj, length-le-sum k hk)));

@@ -1,3 +1,7 @@
 pub mod Lexemes
-pub mod TokenSteps
+pub mod OneOutcome
+pub mod Runs
+pub mod Sessions
+pub mod Statements
 pub mod Texts
+pub mod TokenSteps

@@ -1,8 +1,11 @@
 pub mod Outcomes
 pub mod ProductSteps
 pub mod Products
+pub mod Runs
+pub mod Sessions
 pub mod Statuses
 pub mod Text
 pub mod Tokens
+pub mod Transcript
 pub mod Values
 pub mod Words

@@ -32,3 +32,13 @@ IsDone ReadFault = ⊥
 IsDone WriteFault = ⊥
 IsDone Memory = ⊥
 IsDone InputLimit = ⊥
+
+-- the run was cut off
+abbrev pub IsStopped : Status → Type 0
+IsStopped Ok = ⊥
+IsStopped Refused = ⊥
+IsStopped Usage = ⊥
+IsStopped ReadFault = Unit {0}
+IsStopped WriteFault = Unit {0}
+IsStopped Memory = Unit {0}
+IsStopped InputLimit = Unit {0}

@@ -5,6 +5,7 @@ mod printing;
 mod product;
 mod reading;
 mod run;
+mod session;
 mod statement;
 mod status;
 #[cfg(test)]

@@ -1,5 +1,5 @@
 //! What a statement comes to, and the line that it prints.
-ghost use Rattle.std.specs.Prelude.{◌≡◌, IfOk};
+ghost use Rattle.std.specs.Prelude.{◌≡◌, IfOk, string_bytes};
 ghost use Rattle.hopf.specs.Outcomes.{IsOutcome, line_of as line_of_outcome, refusal_line};
 
 use crate::printing::print_value;
@@ -30,7 +30,9 @@ pub enum Outcome {
 }
 
 /// The outcome of the text of a statement, without leading blanks and without its `;`.
-pub fn evaluate(alloc: Global, text: &[u8]) -> Result<Outcome, OutOfMemory> {
+pub fn evaluate(alloc: Global, text: &[u8]) -> Result<Outcome, OutOfMemory>
+    ensures { IfOk result (IsOutcome text.now) }
+{
     if text.is_empty() {
         return Ok(Outcome::Empty);
     }
@@ -55,7 +57,9 @@ fn refusal_text(
     alloc: Global,
     number: u64,
     refusal: &StatementRefusal,
-) -> Result<String, OutOfMemory> {
+) -> Result<String, OutOfMemory>
+    ensures { IfOk result (λ line. string_bytes line ≡ refusal_line number refusal.now) }
+{
     let line = match refusal {
         StatementRefusal::NotBuilt => {
             format!(in alloc; "error 20 in statement {number}: not built yet\n")?
@@ -68,7 +72,9 @@ fn refusal_text(
 }
 
 /// The line of the outcome of the statement with this number, with its line feed, or nothing.
-pub fn line_of(alloc: Global, number: u64, outcome: &Outcome) -> Result<Bytes, OutOfMemory> {
+pub fn line_of(alloc: Global, number: u64, outcome: &Outcome) -> Result<Bytes, OutOfMemory>
+    ensures { IfOk result (λ line. line ≡ line_of_outcome number outcome.now) }
+{
     let mut line = Bytes::new(alloc);
     match outcome {
         Outcome::Empty => {}

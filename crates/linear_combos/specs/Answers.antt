@@ -1,12 +1,13 @@
 -- What a rule on indices answers.
 use Rattle.std.specs.Prelude.{◌≡◌, ℕ, ◌*◌, ◌^◌, ◌≤◌, List, length}
-use Rattle.linear_combos.specs.Combos.{Combination, HasKey, norm_of}
+use Rattle.linear_combos.specs.Combos.{Combination, IsCanonical, HasKey, norm_of}
 use Rattle.linear_combos.specs.Indices.{AreIndices, total_degree}
 use Rattle.linear_combos.specs.Readings.{Reading, leaf, AgreeAt}
 use Rattle.linear_combos.specs.Rows.{Row}
 
--- the combination over these bases reads as the reading does, at all points; its keys are indices of degree n, it is over 1, and its norm is at most 2^(5n), so that no sum of such answers passes its room
+-- the combination over these bases is canonical and reads as the reading does, at all points; its keys are indices of degree n, it is over 1, and its norm is at most 2^(5n), so that no sum of such answers passes its room
 pub record IsAnswer (rows : List Row) (n : ℕ) (reading : Reading) (c : Combination) : Type 0 where
+  pub canonical : IsCanonical c.rank c.den c.terms
   pub rank : c.rank ≡ length rows
   pub whole : c.den ≡ 1
   pub small : norm_of c.terms ≤ 2 ^ (5 * n)

@@ -1,5 +1,5 @@
 use Rattle.std.proofs.Common.{◌≡◌, ◌+◌, ◌≤◌, [], length, arith, ap, ◌∙◌}
-use Rattle.linear_combos.specs.Combos.{norm_of}
+use Rattle.linear_combos.specs.Combos.{norm_of, IsCanonical}
 use Rattle.compositions.specs.QuasiShuffles.{quasi_shuffles, AddsShuffles}
 use Rattle.compositions.proofs.Parts.{length-le-sum, shuffles_bound}
 use Rattle.compositions.proofs.Readings.{shuffles_answer}
@@ -21,4 +21,5 @@ returns c =
     omega (arith, rw (a, b, c.zero-out.ensures) at c.in_ok-add_quasi_shuffles.ensures.norm) in
     let adds : AddsShuffles [] c.add_quasi_shuffles.new.out.terms [] c.args.a.now c.args.b.now =
     rw (a, b, c.zero-out.ensures, c.empty-word.ensures) at c.in_ok-add_quasi_shuffles.ensures.adds in
-    shuffles_answer c.args.a.now c.args.b.now _ c.code.ensures.small.positive c.code-2.ensures.small.positive c.in_ok-add_quasi_shuffles.ensures.same_rank c.in_ok-add_quasi_shuffles.ensures.same_den norm adds
+    let canonical : IsCanonical c.add_quasi_shuffles.new.out.rank c.add_quasi_shuffles.new.out.den c.add_quasi_shuffles.new.out.terms = rw (← c.out.view_is) c.out.invariant.0 in
+    shuffles_answer c.args.a.now c.args.b.now _ canonical c.code.ensures.small.positive c.code-2.ensures.small.positive c.in_ok-add_quasi_shuffles.ensures.same_rank c.in_ok-add_quasi_shuffles.ensures.same_den norm adds

@@ -1,0 +1,53 @@
+-- The statements of a list of bytes, and the lines that they print.
+use Rattle.std.specs.Prelude.{◌≡◌, ℕ, ◌+◌, ◌==◌, List, [], ◌∷◌, ◌++◌, Bool, true, false, if◌then◌else◌, All, MatchBool}
+use Rattle.std.specs.List.{slice_split, list_any}
+use Rattle.hopf.specs.declared.statement.Outcome.{Outcome}
+use Rattle.hopf.specs.declared.statement.Outcome.TheVariants.{Refused}
+use Rattle.hopf.specs.declared.statement.StatementRefusal.TheVariants.{NotBuilt}
+use Rattle.hopf.specs.Outcomes.{IsOutcome, line_of, is_refusal}
+use Rattle.hopf.specs.Tokens.{is_blank}
+
+-- `;` ends a statement
+abbrev pub is_end : ℕ → Bool
+is_end c = c == 59
+
+-- without the blanks at its beginning
+abbrev pub trimmed : List ℕ → List ℕ
+trimmed [] = []
+trimmed (c ∷ text) = if is_blank c then trimmed text else c ∷ text
+
+-- what follows the last `;` is a statement where it holds a byte that is no blank; no form without its `;` is built
+abbrev pub unfinished : List ℕ → List Outcome
+unfinished [] = []
+unfinished (c ∷ text) = Refused NotBuilt ∷ []
+
+abbrev pub is_none : List (List ℕ) → Bool
+is_none [] = true
+is_none (part ∷ parts) = false
+
+-- the outcomes of the statements whose texts these parts are, in order; the last part has no `;`
+abbrev pub AreOutcomes : List (List ℕ) → List Outcome → Type 0
+AreOutcomes [] os = os ≡ []
+AreOutcomes (part ∷ parts) os = MatchBool (is_none parts) (os ≡ unfinished (trimmed part))
+    ((outcome : Outcome) × (rest : List Outcome) × (os ≡ outcome ∷ rest) × IsOutcome (trimmed part) outcome × AreOutcomes parts rest)
+
+-- the outcomes of the statements of the bytes: the stretches between the bytes `;`, and the rest
+abbrev pub IsScript : List ℕ → List Outcome → Type 0
+IsScript bytes os = AreOutcomes (slice_split is_end bytes) os
+
+-- the lines of these outcomes after k statements: the transcript
+abbrev pub lines : ℕ → List Outcome → List ℕ
+lines k [] = []
+lines k (outcome ∷ rest) = line_of (k + 1) outcome ++ lines (k + 1) rest
+
+abbrev pub some_refused : List Outcome → Bool
+some_refused = list_any is_refusal
+
+abbrev pub starts_blank : List ℕ → Bool
+starts_blank [] = false
+starts_blank (c ∷ text) = is_blank c
+
+-- the text of a statement so far: no `;` is in it, and no blank stands at its beginning
+pub record IsText (text : List ℕ) : Type 0 where
+  pub no_end : All (λ c. is_end c ≡ false) text
+  pub no_blank : starts_blank text ≡ false
