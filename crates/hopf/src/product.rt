@@ -219,7 +219,8 @@ fn factor(alloc: Global, lexemes: &[Lexeme]) -> Result<Option<Composition>, OutO
 }
 
 /// The product that a text spells, if it spells one: `QSym.M`, a list, `*`, `QSym.M` and a list, each
-/// list a composition of at most 10, in a text of at most 65,536 bytes.
+/// list a composition of at most 10, in a text of at most 65,536 bytes. Blanks may stand between the
+/// tokens. The only error is that memory ran out.
 pub fn product_of(alloc: Global, text: &[u8]) -> Result<Option<Product>, OutOfMemory>
     ensures { IfOk result (λ found. MatchOption found ((left right : List ℕ) → IsProduct text.now left right → ⊥) (λ p. IsProduct text.now p.left p.right)) }
 {
