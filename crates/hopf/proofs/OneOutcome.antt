@@ -1,6 +1,7 @@
 -- A text has one outcome.
 use Rattle.std.proofs.Common.{◌≡◌, ◌≢◌, ℕ, ◌+◌, ◌<◌, ◌≤◌, List, [], ◌∷◌, length, refl, sym, ◌∙◌, ap, subst, arith, pos}
 use Rattle.std.specs.List.{sum}
+use Rattle.linear_combos.specs.Answers.{IsAnswer}
 use Rattle.linear_combos.specs.Combos.{Combination}
 use Rattle.linear_combos.specs.Readings.{Reading, AgreeAt, leaf, denominator, element, product}
 use Rattle.linear_combos.specs.Rows.{qsym_m}
@@ -23,6 +24,13 @@ at_one_point : (P : List (List ℕ) → Type 0) → ((p : List ℕ) → P (p ∷
 at_one_point P h [] e = absurd (omega arith)
 at_one_point P h (p ∷ []) e = h p
 at_one_point P h (p ∷ q ∷ ps) e = absurd (omega arith)
+
+-- the answer of a rule is the value that reads so
+pub value_from_answer : (n : ℕ) (r : Reading) (c : Combination) → IsAnswer (qsym_m ∷ []) n r c → IsValueOf r c
+value_from_answer n r c h = record {
+  value = record { canonical = h.canonical; rank = h.rank; whole = h.whole; indices = h.indices };
+  reads = λ p. rw h.whole (h.reads (p ∷ []) refl);
+}
 
 -- values that read alike are equal
 pub value_once : (r : Reading) (c d : Combination) → 1 ≤ denominator r → IsValueOf r c → IsValueOf r d → c.terms ≡ d.terms

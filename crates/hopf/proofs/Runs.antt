@@ -20,10 +20,10 @@ at_left (Some x) (Some y) bytes P h e p = subst P (sym (h ∙ ap (λ l. bytes ++
 -- a new session stopped
 pub prefix_of_new : (s : Session) (bytes : List ℕ) (t t' : Option (List ℕ)) → s.pending ≡ [] → s.statements ≡ 0 → StopsWhole s bytes t t' → WritesPrefix bytes t t'
 prefix_of_new s bytes t t' pending statements h = record {
-    written = h.written;
-    appended = h.appended;
-    prefix = λ os script. rw statements at (h.prefix os (rw pending script))
-    }
+  written = h.written;
+  appended = h.appended;
+  prefix = λ os script. rw statements at (h.prefix os (rw pending script));
+}
 
 -- a new session over a sink that is steady with room
 pub never_of_new : (s : Session) (bytes : List ℕ) (room : Option ℕ) (fault : SessionFault) → s.pending ≡ [] → s.statements ≡ 0

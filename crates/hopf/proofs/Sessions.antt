@@ -22,78 +22,78 @@ use Rattle.hopf.proofs.Statements.{script_end, from_script_end, script_blank, fr
 
 same_then : (a b c : Session) (w v : List ℕ) (xs ys zs : List Outcome) → Same a b w xs ys → Same b c v ys zs → Same a c (w ++ v) xs zs
 same_then a b c w v xs ys zs h k = record {
-    lines = h.lines ∙ ap (λ l. w ++ l) k.lines ∙ sym (append_assoc w v (lines c.statements zs));
-    refused = h.refused ∙ k.refused
-    }
+  lines = h.lines ∙ ap (λ l. w ++ l) k.lines ∙ sym (append_assoc w v (lines c.statements zs));
+  refused = h.refused ∙ k.refused;
+}
 
 continues_then : (a b c : Session) (x y z : List ℕ) (w v : List ℕ) → Continues a b x y w → Continues b c y z v → Continues a c x z (w ++ v)
 continues_then a b c x y z w v h k = record {
-    forth = λ rest script.
-        let (mid, is_mid, same) = k.forth rest script in
-        let (all, is_all, same') = h.forth mid is_mid in
-        (all, is_all, same_then a b c w v all mid rest same' same);
-    back = λ all script.
-        let (mid, is_mid, same) = h.back all script in
-        let (rest, is_rest, same') = k.back mid is_mid in
-        (rest, is_rest, same_then a b c w v all mid rest same same')
-    }
+  forth = λ rest script.
+      let (mid, is_mid, same) = k.forth rest script in
+      let (all, is_all, same') = h.forth mid is_mid in
+      (all, is_all, same_then a b c w v all mid rest same' same);
+  back = λ all script.
+      let (mid, is_mid, same) = h.back all script in
+      let (rest, is_rest, same') = k.back mid is_mid in
+      (rest, is_rest, same_then a b c w v all mid rest same same');
+}
 
 -- the pending text goes on with the byte, or the byte counts for nothing
 pub continues_text : (old new : Session) (x y : List ℕ) → new.statements ≡ old.statements → new.refused ≡ old.refused
     → old.pending ++ x ≡ new.pending ++ y → Continues old new x y []
 continues_text old new x y statements refused same = record {
-    forth = λ rest script. (rest, rw same script, record { lines = rw statements refl; refused = rw refused refl });
-    back = λ all script. (all, rw (← same) script, record { lines = rw statements refl; refused = rw refused refl })
-    }
+  forth = λ rest script. (rest, rw same script, record { lines = rw statements refl; refused = rw refused refl });
+  back = λ all script. (all, rw (← same) script, record { lines = rw statements refl; refused = rw refused refl });
+}
 
 pub advances_nothing : (s : Session) (taken : Option (List ℕ)) (room : Option ℕ) → Advances s s taken taken room room []
 advances_nothing s taken room = record {
-    written = [];
-    appended = Appends-nil taken;
-    continues = λ r. continues_text s s r r refl refl refl;
-    used = λ n e fits. e ∙ ap Some (omega arith)
-    }
+  written = [];
+  appended = Appends-nil taken;
+  continues = λ r. continues_text s s r r refl refl refl;
+  used = λ n e fits. e ∙ ap Some (omega arith);
+}
 
 pub advances_then : (a b c : Session) (t t' t'' : Option (List ℕ)) (m m' m'' : Option ℕ) (p q : List ℕ)
     → Advances a b t t' m m' p → Advances b c t' t'' m' m'' q → Advances a c t t'' m m'' (p ++ q)
 advances_then a b c t t' t'' m m' m'' p q first second = record {
-    written = first.written ++ second.written;
-    appended = Appends-trans _ _ _ _ _ first.appended second.appended;
-    continues = λ r. subst (λ (l : List ℕ). Continues a c l r (first.written ++ second.written)) (sym (append_assoc p q r))
-        (continues_then a b c (p ++ (q ++ r)) (q ++ r) r first.written second.written (first.continues (q ++ r)) (second.continues r));
-    used = λ n e fits.
-        let both : length first.written + length second.written ≤ n = omega (arith, length-append first.written second.written) in
-        let mid = first.used n e (omega arith) in
-        let last = second.used (n - length first.written) mid (omega arith) in
-        last ∙ ap Some (omega (arith, length-append first.written second.written))
-    }
+  written = first.written ++ second.written;
+  appended = Appends-trans _ _ _ _ _ first.appended second.appended;
+  continues = λ r. subst (λ (l : List ℕ). Continues a c l r (first.written ++ second.written)) (sym (append_assoc p q r))
+      (continues_then a b c (p ++ (q ++ r)) (q ++ r) r first.written second.written (first.continues (q ++ r)) (second.continues r));
+  used = λ n e fits.
+      let both : length first.written + length second.written ≤ n = omega (arith, length-append first.written second.written) in
+      let mid = first.used n e (omega arith) in
+      let last = second.used (n - length first.written) mid (omega arith) in
+      last ∙ ap Some (omega (arith, length-append first.written second.written));
+}
 
 -- a call that stopped, after a piece
 pub stops_then : (a b : Session) (t t' t'' : Option (List ℕ)) (m m' : Option ℕ) (p q more : List ℕ)
     → Advances a b t t' m m' p → Stops b t' t'' q → Stops a t t'' (p ++ (q ++ more))
 stops_then a b t t' t'' m m' p q more first second = record {
-    written = first.written ++ second.written;
-    appended = Appends-trans _ _ _ _ _ first.appended second.appended;
-    prefix = λ r all script.
-        let same : (p ++ (q ++ more)) ++ r ≡ p ++ (q ++ (more ++ r)) = append_assoc p (q ++ more) r ∙ ap (λ l. p ++ l) (append_assoc q more r) in
-        let script' = subst (λ (l : List ℕ). Script a l all) same script in
-        let (rest, is_rest, whole) = (first.continues (q ++ (more ++ r))).back all script' in
-        let (left, parts) = second.prefix (more ++ r) rest is_rest in
-        (left, whole.lines ∙ ap (λ l. first.written ++ l) parts ∙ sym (append_assoc first.written second.written left))
-    }
+  written = first.written ++ second.written;
+  appended = Appends-trans _ _ _ _ _ first.appended second.appended;
+  prefix = λ r all script.
+      let same : (p ++ (q ++ more)) ++ r ≡ p ++ (q ++ (more ++ r)) = append_assoc p (q ++ more) r ∙ ap (λ l. p ++ l) (append_assoc q more r) in
+      let script' = subst (λ (l : List ℕ). Script a l all) same script in
+      let (rest, is_rest, whole) = (first.continues (q ++ (more ++ r))).back all script' in
+      let (left, parts) = second.prefix (more ++ r) rest is_rest in
+      (left, whole.lines ∙ ap (λ l. first.written ++ l) parts ∙ sym (append_assoc first.written second.written left));
+}
 
 pub steady_then : (a b : Session) (t t' : Option (List ℕ)) (m m' : Option ℕ) (p q more : List ℕ) (result : Result Unit SessionFault)
     → Advances a b t t' m m' p → WritesIfSteady b m' q result → WritesIfSteady a m (p ++ (q ++ more)) result
 steady_then a b t t' m m' p q more result first second = record {
-    never = λ n r all room script fits.
-        let same : (p ++ (q ++ more)) ++ r ≡ p ++ (q ++ (more ++ r)) = append_assoc p (q ++ more) r ∙ ap (λ l. p ++ l) (append_assoc q more r) in
-        let script' = subst (λ (l : List ℕ). Script a l all) same script in
-        let (rest, is_rest, whole) = (first.continues (q ++ (more ++ r))).back all script' in
-        let sizes : length (lines a.statements all) ≡ length first.written + length (lines b.statements rest) =
-            ap length whole.lines ∙ length-append first.written (lines b.statements rest) in
-        let mid = first.used n room (omega arith) in
-        second.never (n - length first.written) (more ++ r) rest mid is_rest (omega arith)
-    }
+  never = λ n r all room script fits.
+      let same : (p ++ (q ++ more)) ++ r ≡ p ++ (q ++ (more ++ r)) = append_assoc p (q ++ more) r ∙ ap (λ l. p ++ l) (append_assoc q more r) in
+      let script' = subst (λ (l : List ℕ). Script a l all) same script in
+      let (rest, is_rest, whole) = (first.continues (q ++ (more ++ r))).back all script' in
+      let sizes : length (lines a.statements all) ≡ length first.written + length (lines b.statements rest) =
+      ap length whole.lines ∙ length-append first.written (lines b.statements rest) in
+      let mid = first.used n room (omega arith) in
+      second.never (n - length first.written) (more ++ r) rest mid is_rest (omega arith);
+}
 
 lines_end : (k k' : ℕ) (o p : Outcome) (all rest : List Outcome) → all ≡ o ∷ rest → o ≡ p → k' ≡ k + 1 → lines k all ≡ line_of (k + 1) p ++ lines k' rest
 lines_end k k' o p all rest e f h = rw (e, f, h) refl
@@ -105,69 +105,73 @@ pub advances_end : (old new : Session) (t t' : Option (List ℕ)) (m m' : Option
 advances_end old new t t' m m' text h =
     let line = line_of (old.statements + 1) h.outcome in
     record {
-    written = line;
-    appended = h.appended;
-    continues = λ r. record {
+      written = line;
+      appended = h.appended;
+      continues = λ r. record {
         forth = λ rest script.
-            let script' : IsScript r rest = rw h.pending at script in
-            (h.outcome ∷ rest, script_end old.pending r h.outcome rest text h.is script',
-                record { lines = lines_end _ _ _ _ _ rest refl refl h.statements; refused = refused_end _ _ _ _ _ rest refl refl h.refused });
+            let script' : IsScript r rest = rw h.pending at script in (
+              h.outcome ∷ rest,
+              script_end old.pending r h.outcome rest text h.is script',
+              record { lines = lines_end _ _ _ _ _ rest refl refl h.statements; refused = refused_end _ _ _ _ _ rest refl refl h.refused },
+            );
         back = λ all script.
             let (o, rest, parts, is, script') = from_script_end old.pending r all text script in
-            let same = outcome_once old.pending o h.outcome is h.is in
-            (rest, rw h.pending script',
-                record { lines = lines_end _ _ _ _ _ rest parts same h.statements; refused = refused_end _ _ _ _ _ rest parts same h.refused })
-        };
-    used = h.used
+            let same = outcome_once old.pending o h.outcome is h.is in (
+              rest,
+              rw h.pending script',
+              record { lines = lines_end _ _ _ _ _ rest parts same h.statements; refused = refused_end _ _ _ _ _ rest parts same h.refused },
+            );
+      };
+      used = h.used;
     }
 
 pub stops_end : (old : Session) (t t' : Option (List ℕ)) → IsText old.pending → EndStops old t t' → Stops old t t' (59 ∷ [])
 stops_end old t t' text h = record {
-    written = h.written;
-    appended = h.appended;
-    prefix = λ r all script.
-        let (o, rest, parts, is, script') = from_script_end old.pending r all text script in
-        let (more, whole) = h.prefix o is in
-        let left = lines (old.statements + 1) rest in
-        (more ++ left, ap (lines old.statements) parts ∙ ap (λ l. l ++ left) whole ∙ append_assoc h.written more left)
-    }
+  written = h.written;
+  appended = h.appended;
+  prefix = λ r all script.
+      let (o, rest, parts, is, script') = from_script_end old.pending r all text script in
+      let (more, whole) = h.prefix o is in
+      let left = lines (old.statements + 1) rest in
+      (more ++ left, ap (lines old.statements) parts ∙ ap (λ l. l ++ left) whole ∙ append_assoc h.written more left);
+}
 
 -- the line of the statement is a part of the transcript
 pub steady_end : (old : Session) (m : Option ℕ) (result : Result Unit SessionFault) → IsText old.pending → EndIfSteady old m result → WritesIfSteady old m (59 ∷ []) result
 steady_end old m result text h = record {
-    never = λ n r all room script fits.
-        let (o, rest, parts, is, script') = from_script_end old.pending r all text script in
-        let line = line_of (old.statements + 1) o in
-        let sizes : length (lines old.statements all) ≡ length line + length (lines (old.statements + 1) rest) =
-            ap (λ os. length (lines old.statements os)) parts ∙ length-append line (lines (old.statements + 1) rest) in
-        h n o room is (omega arith)
-    }
+  never = λ n r all room script fits.
+      let (o, rest, parts, is, script') = from_script_end old.pending r all text script in
+      let line = line_of (old.statements + 1) o in
+      let sizes : length (lines old.statements all) ≡ length line + length (lines (old.statements + 1) rest) =
+      ap (λ os. length (lines old.statements os)) parts ∙ length-append line (lines (old.statements + 1) rest) in
+      h n o room is (omega arith);
+}
 
 -- The byte goes on with the pending text.
 pub advances_byte : (old new : Session) (t : Option (List ℕ)) (m : Option ℕ) (c : ℕ) → new.statements ≡ old.statements
     → new.refused ≡ old.refused → new.pending ≡ old.pending ++ c ∷ [] → Advances old new t t m m (c ∷ [])
 advances_byte old new t m c statements refused pending = record {
-    written = [];
-    appended = Appends-nil t;
-    continues = λ r. continues_text old new (c ∷ r) r statements refused (sym (ap (λ l. l ++ r) pending ∙ append_assoc old.pending (c ∷ []) r));
-    used = λ n e fits. e ∙ ap Some (omega arith)
-    }
+  written = [];
+  appended = Appends-nil t;
+  continues = λ r. continues_text old new (c ∷ r) r statements refused (sym (ap (λ l. l ++ r) pending ∙ append_assoc old.pending (c ∷ []) r));
+  used = λ n e fits. e ∙ ap Some (omega arith);
+}
 
 -- A blank before a text counts for nothing.
 pub advances_blank : (s : Session) (t : Option (List ℕ)) (m : Option ℕ) (c : ℕ) → s.pending ≡ [] → is_end c ≡ false → is_blank c ≡ true → Advances s s t t m m (c ∷ [])
 advances_blank s t m c empty e blank = record {
-    written = [];
-    appended = Appends-nil t;
-    continues = λ r. record {
-        forth = λ rest script.
-            let script' : IsScript r rest = rw empty at script in
-            (rest, rw empty (script_blank c r rest e blank script'), record { lines = refl; refused = refl });
-        back = λ all script.
-            let script' : IsScript (c ∷ r) all = rw empty at script in
-            (all, rw empty (from_script_blank c r all e blank script'), record { lines = refl; refused = refl })
-        };
-    used = λ n e' fits. e' ∙ ap Some (omega arith)
-    }
+  written = [];
+  appended = Appends-nil t;
+  continues = λ r. record {
+    forth = λ rest script.
+        let script' : IsScript r rest = rw empty at script in
+        (rest, rw empty (script_blank c r rest e blank script'), record { lines = refl; refused = refl });
+    back = λ all script.
+        let script' : IsScript (c ∷ r) all = rw empty at script in
+        (all, rw empty (from_script_blank c r all e blank script'), record { lines = refl; refused = refl });
+  };
+  used = λ n e' fits. e' ∙ ap Some (omega arith);
+}
 
 -- the bytes before an index, the one there, and those after it
 pub around : (xs : List ℕ) (i : ℕ) → i < length xs → take i xs ++ ((get_or xs i 0 ∷ []) ++ drop (i + 1) xs) ≡ xs
@@ -211,29 +215,31 @@ pub runs_whole : (a b : Session) (t t' t'' : Option (List ℕ)) (m m' : Option �
 runs_whole a b t t' t'' m m' bytes refuses first appended refused =
     let (all, script, same) = (first.continues []).forth (last_of b) (script_rest b) in
     record {
-    outcomes = all;
-    are = subst (λ (l : List ℕ). Script a l all) (append-nil bytes) script;
-    appended = subst (λ (l : List ℕ). Appends t t'' l) (sym same.lines) (Appends-trans _ _ _ _ _ first.appended appended);
-    refused = refused ∙ sym same.refused
+      outcomes = all;
+      are = subst (λ (l : List ℕ). Script a l all) (append-nil bytes) script;
+      appended = subst (λ (l : List ℕ). Appends t t'' l) (sym same.lines) (Appends-trans _ _ _ _ _ first.appended appended);
+      refused = refused ∙ sym same.refused;
     }
 
 pub stops_whole : (s : Session) (t t' : Option (List ℕ)) (bytes : List ℕ) → Stops s t t' bytes → StopsWhole s bytes t t'
 stops_whole s t t' bytes h = record {
-    written = h.written;
-    appended = h.appended;
-    prefix = λ all script. h.prefix [] all (rw append-nil script)
-    }
+  written = h.written;
+  appended = h.appended;
+  prefix = λ all script. h.prefix [] all (rw append-nil script);
+}
 
 pub stops_at_end : (a b : Session) (t t' t'' : Option (List ℕ)) (m m' : Option ℕ) (bytes : List ℕ)
     → Advances a b t t' m m' bytes → AppendsPrefix t' t'' (lines b.statements (last_of b)) → StopsWhole a bytes t t''
 stops_at_end a b t t' t'' m m' bytes first (front, appended, (more, whole)) = record {
-    written = first.written ++ front;
-    appended = Appends-trans _ _ _ _ _ first.appended appended;
-    prefix = λ all script.
-        let (rest, script', same) = (first.continues []).back all (rw append-nil script) in
-        (more, same.lines ∙ ap (λ os. first.written ++ lines b.statements os) (from_script_rest b rest script') ∙ ap (λ l. first.written ++ l) whole
-            ∙ sym (append_assoc first.written front more))
-    }
+  written = first.written ++ front;
+  appended = Appends-trans _ _ _ _ _ first.appended appended;
+  prefix = λ all script.
+      let (rest, script', same) = (first.continues []).back all (rw append-nil script) in (
+        more,
+        same.lines ∙ ap (λ os. first.written ++ lines b.statements os) (from_script_rest b rest script') ∙ ap (λ l. first.written ++ l) whole
+            ∙ sym (append_assoc first.written front more),
+      );
+}
 
 -- the room that is left after a whole input is enough for its end
 pub room_at_end : (a b : Session) (t t' : Option (List ℕ)) (m m' : Option ℕ) (bytes : List ℕ) (all : List Outcome) → Advances a b t t' m m' bytes
@@ -241,6 +247,6 @@ pub room_at_end : (a b : Session) (t t' : Option (List ℕ)) (m m' : Option ℕ)
 room_at_end a b t t' m m' bytes all first script n room fits =
     let (rest, script', same) = (first.continues []).back all (rw append-nil script) in
     let sizes : length (lines a.statements all) ≡ length first.written + length (lines b.statements (last_of b)) =
-        ap length (same.lines ∙ ap (λ os. first.written ++ lines b.statements os) (from_script_rest b rest script'))
-        ∙ length-append first.written (lines b.statements (last_of b)) in
+    ap length (same.lines ∙ ap (λ os. first.written ++ lines b.statements os) (from_script_rest b rest script'))
+    ∙ length-append first.written (lines b.statements (last_of b)) in
     (n - length first.written, first.used n room (omega arith), omega arith)

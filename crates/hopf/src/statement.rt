@@ -52,23 +52,30 @@ pub fn evaluate(alloc: Global, text: &[u8]) -> Result<Outcome, OutOfMemory>
     Ok(Outcome::Printed(line))
 }
 
+// The line of a degree past its limit, with its line feed.
+fn degree_text(alloc: Global, number: u64, degree: u32, limit: u32) -> Result<String, OutOfMemory>
+    ensures { IfOk result (λ line. string_bytes line ≡ refusal_line number (StatementRefusal.Degree degree limit)) }
+{
+    let line = format!(in alloc;
+        "error 16 in statement {number}: degree {degree} is past {limit}\n"
+    )?;
+    Ok(line)
+}
+
 // The line of a refusal, with its line feed.
 fn refusal_text(
     alloc: Global,
     number: u64,
-    refusal: &StatementRefusal,
+    refusal: StatementRefusal,
 ) -> Result<String, OutOfMemory>
-    ensures { IfOk result (λ line. string_bytes line ≡ refusal_line number refusal.now) }
+    ensures { IfOk result (λ line. string_bytes line ≡ refusal_line number refusal) }
 {
-    let line = match refusal {
-        StatementRefusal::NotBuilt => {
-            format!(in alloc; "error 20 in statement {number}: not built yet\n")?
-        }
-        StatementRefusal::Degree { degree, limit } => format!(in alloc;
-            "error 16 in statement {number}: degree {degree} is past {limit}\n"
-        )?,
-    };
-    Ok(line)
+    match refusal {
+        StatementRefusal::NotBuilt => Ok(format!(in alloc;
+            "error 20 in statement {number}: not built yet\n"
+        )?),
+        StatementRefusal::Degree { degree, limit } => degree_text(alloc, number, degree, limit),
+    }
 }
 
 /// The line of the outcome of the statement with this number, with its line feed, or nothing.
@@ -83,7 +90,7 @@ pub fn line_of(alloc: Global, number: u64, outcome: &Outcome) -> Result<Bytes, O
             line.push_all(b"\n")?;
         }
         Outcome::Refused(refusal) => {
-            line.push_all(refusal_text(alloc, number, refusal)?.as_bytes())?;
+            line.push_all(refusal_text(alloc, number, *refusal)?.as_bytes())?;
         }
     }
     Ok(line)

@@ -17,5 +17,5 @@ returns-in-Err-clause-steady_sink g c =
     let new = c.new-session.ensures in
     let never = never_of_new c.new-session.result c.as_slice.result.now _ _ new.pending new.statements c.in-Err.ensures.steady in
     let is_write : c.match-fault.result ≡ WriteFault → c.in-Err.fault ≡ Write =
-        λ is. elim c.match-fault.branch [ in-Write w ↦ w.in-Write.is | in-Memory w ↦ absurd (not_both _ w.result-is is) ] in
+    λ is. elim c.match-fault.branch [ in-Write w ↦ w.in-Write.is | in-Memory w ↦ absurd (not_both _ w.result-is is) ] in
     at_left _ _ _ _ c.in-Ok.ensures.all c.in-Ok.ensures.end (λ has is. (rw c.as_slice.ensures at never) has (is_write is))

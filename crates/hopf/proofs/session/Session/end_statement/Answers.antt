@@ -11,12 +11,12 @@ returns-in_err-send_all-clause-err g c =
     let whole : c.as_slice-2.result.now ≡ line_of (c.args.self.now.statements + 1) c.in_ok-outcome.outcome = search rules in
     let (written, appended, front) = c.in_err-send_all.ensures.part in
     rw p.1 (record {
-        written = written;
-        appended = appended;
-        prefix = λ outcome is.
-            let same = outcome_once c.args.self.now.pending c.in_ok-outcome.outcome outcome (search rules) is in
-            subst (λ (l : List ℕ). IsPrefix written l) (whole ∙ ap (line_of (c.args.self.now.statements + 1)) same) front
-        })
+      written = written;
+      appended = appended;
+      prefix = λ outcome is.
+          let same = outcome_once c.args.self.now.pending c.in_ok-outcome.outcome outcome (search rules) is in
+          subst (λ (l : List ℕ). IsPrefix written l) (whole ∙ ap (line_of (c.args.self.now.statements + 1)) same) front;
+    })
 
 pub returns-in_err-send_all-clause-steady : goal.returns-in_err-send_all-clause-steady
 returns-in_err-send_all-clause-steady g c n outcome room is fits =
