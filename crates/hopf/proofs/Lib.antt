@@ -1,3 +1,4 @@
+pub mod Completeness
 pub mod Lexemes
 pub mod OneOutcome
 pub mod Runs

@@ -1,5 +1,5 @@
 //! The top call.
-ghost use Rattle.std.specs.Prelude.{◌≡◌, ℕ, ◌+◌, ◌^◌, ◌<◌, ◌≤◌, ◌↔◌, [], length, Some, IfSome, map, string_bytes, false};
+ghost use Rattle.std.specs.Prelude.{◌≡◌, ℕ, ◌+◌, ◌^◌, ◌<◌, ◌≤◌, ◌↔◌, [], length, Some, IfSome, map, string_bytes, true, false, ◌⊎◌};
 ghost use Rattle.std.specs.Io.KnownBytes.{Appends};
 ghost use Rattle.hopf_io.specs.Faults.{Rose};
 ghost use Rattle.hopf_io.specs.Prefixes.{AppendsPrefix};
@@ -84,6 +84,12 @@ pub fn run<I: Source, O: Sink, E: Sink>(
     // It brings about no fault of its own choice.
     ensures steady_source { I.steady input.old → result ≡ Status.ReadFault → ⊥ }
     ensures steady_sink { IfSome (I.left input.old) (λ b. HasRoom (O.room out.old) b → result ≡ Status.WriteFault → ⊥) }
+
+    // Where no fault was counted and the input is within its limit, the whole was written, or memory
+    // ran out.
+    ensures complete { is_command_of (map string_bytes words.now) ≡ true
+        → (Rose (I.faults input.old) (I.faults input.new) → ⊥) → (Rose (O.faults out.old) (O.faults out.new) → ⊥)
+        → I.given input.new ≤ I.given input.old + INPUT_LIMIT → IsDone result ⊎ (result ≡ Status.Memory) }
 
     // The error sink has the line of the status.
     ensures line_prefix { AppendsPrefix (E.taken err.old) (E.taken err.new) (status_line result) }

@@ -1,4 +1,8 @@
+//! Tests of whole sessions over the memory source and sinks.
+ghost use Rattle.std.specs.Prelude.{◌<◌, ◌≤◌, length};
+
 use super::*;
+use crate::session::{Session, SessionFault};
 use hopf_io::{Bytes, Calls, MemorySink, MemorySource};
 use std::alloc::Global;
 use std::test::Fail;
@@ -17,20 +21,26 @@ fn calls(alloc: Global, numbers: &[u64]) -> Result<Calls, Fail> {
     Ok(calls)
 }
 
-// What a run over memory answers and writes, with the calls of source and sink that are to fail.
+fn one_word(alloc: Global, word: &str) -> Result<Vec<String>, Fail> {
+    let mut words = Vec::new(alloc);
+    words.push(String::from_str(alloc, word)?)?;
+    Ok(words)
+}
+
+// What a run over memory answers and writes, with the calls of the source, the output and the error
+// sink that are to fail, and the capacity of the output.
 fn run_over(
     alloc: Global,
     word: &str,
     input: &[u8],
-    failing_reads: &[u64],
-    failing_writes: &[u64],
+    failing: [&[u64]; 3],
+    capacity: usize,
 ) -> Result<(Status, Bytes, Bytes), Fail> {
-    let mut words = Vec::new(alloc);
-    words.push(String::from_str(alloc, word)?)?;
-    let reads = calls(alloc, failing_reads)?;
-    let mut source = MemorySource::new(alloc, bytes(alloc, input)?, reads);
-    let mut out = MemorySink::new(alloc, 4096, calls(alloc, failing_writes)?)?;
-    let mut err = MemorySink::new(alloc, 4096, Calls::none(alloc))?;
+    let words = one_word(alloc, word)?;
+    let [reads, writes, errors] = failing;
+    let mut source = MemorySource::new(alloc, bytes(alloc, input)?, calls(alloc, reads)?);
+    let mut out = MemorySink::new(alloc, capacity, calls(alloc, writes)?)?;
+    let mut err = MemorySink::new(alloc, 4096, calls(alloc, errors)?)?;
     let status = run(alloc, words.as_slice(), &mut source, &mut out, &mut err);
     Ok((
         status,
@@ -39,65 +49,192 @@ fn run_over(
     ))
 }
 
-/// Runs with ample memory: each status but want of memory and the input's limit, and what is written.
+const NOT_BUILT: &[u8] = b"error 20 in statement 1: not built yet\n";
+
+/// Worked sessions: the input, the status and the output.
 #[test]
-fn runs_with_ample_memory(rt: HostRuntime) -> Result<(), Fail> {
-    let square: &[u8] = b"QSym.M[1]*QSym.M[1];";
-    let line: &[u8] = b"2*QSym.M[1,1] + QSym.M[2]\n";
-    let not_built: &[u8] = b"error 20 in statement 1: not built yet\n";
-    let cases: [(&str, &[u8], &[u64], &[u64], Status, &[u8], &[u8]); 6] = [
-        ("run", square, &[], &[], Status::Ok, line, b""),
+fn worked_sessions(rt: HostRuntime) -> Result<(), Fail> {
+    let cases: [(&[u8], Status, &[u8]); 18] = [
         (
-            "run",
-            b"QSym.M[1]",
-            &[],
-            &[],
+            b"QSym.M[1]*QSym.M[1];",
+            Status::Ok,
+            b"2*QSym.M[1,1] + QSym.M[2]\n",
+        ),
+        (
+            b"QSym.M[1,1]*QSym.M[1];",
+            Status::Ok,
+            b"3*QSym.M[1,1,1] + QSym.M[1,2] + QSym.M[2,1]\n",
+        ),
+        (b"QSym.M[]*QSym.M[2];", Status::Ok, b"QSym.M[2]\n"),
+        (b"QSym.M[]*QSym.M[];", Status::Ok, b"QSym.M[]\n"),
+        (
+            b"QSym.M[6]*QSym.M[5];",
             Status::Refused,
-            not_built,
-            b"",
+            b"error 16 in statement 1: degree 11 is past 10\n",
         ),
         (
-            "ran",
-            square,
-            &[],
-            &[],
-            Status::Usage,
-            b"",
-            b"usage: hopf run\n",
+            b"QSym.M[10]*QSym.M[10];",
+            Status::Refused,
+            b"error 16 in statement 1: degree 20 is past 10\n",
         ),
+        (b"QSym.M[11]*QSym.M[];", Status::Refused, NOT_BUILT),
+        (b"QSym.M[2,0]*QSym.M[1];", Status::Refused, NOT_BUILT),
+        (b"QSym.M[1] + QSym.M[1];", Status::Refused, NOT_BUILT),
+        (b"QSym.M[1]*QSym.M[1]", Status::Refused, NOT_BUILT),
         (
-            "run",
-            square,
-            &[2],
-            &[],
-            Status::ReadFault,
-            b"",
-            b"hopf: read failed\n",
+            b"QSym.M[1]*QSym.M[1]*QSym.M[1];",
+            Status::Refused,
+            NOT_BUILT,
         ),
+        (b"QSym .M[1]*QSym.M[1];", Status::Refused, NOT_BUILT),
+        (b"QSym.Mx[1]*QSym.M[1];", Status::Refused, NOT_BUILT),
         (
-            "run",
-            square,
-            &[],
-            &[1],
-            Status::WriteFault,
-            b"",
-            b"hopf: write failed\n",
+            b" \tQSym.M [ 01 ]\r\n* QSym.M[0000000002];",
+            Status::Ok,
+            b"QSym.M[1,2] + QSym.M[2,1] + QSym.M[3]\n",
         ),
+        (b"QSym.M[1 1]*QSym.M[1];", Status::Refused, NOT_BUILT),
+        (b"", Status::Ok, b""),
+        (b";; ;\n", Status::Ok, b""),
         (
-            "run",
-            square,
-            &[],
-            &[2],
-            Status::WriteFault,
-            line,
-            b"hopf: write failed\n",
+            b"x;QSym.M[1]*QSym.M[];;y",
+            Status::Refused,
+            b"error 20 in statement 1: not built yet\nQSym.M[1]\nerror 20 in statement 4: not built yet\n",
         ),
     ];
-    for (word, input, reads, writes, status, output, message) in cases {
-        let answer = run_over(rt.alloc(), word, input, reads, writes)?;
+    for (input, status, output) in cases {
+        let answer = run_over(rt.alloc(), "run", input, [&[], &[], &[]], 4096)?;
+        assert_eq!(rt; answer.0, status);
+        assert_eq!(rt; answer.1.as_slice(), output);
+        assert_eq!(rt; answer.2.as_slice(), b"".as_slice());
+    }
+    Ok(())
+}
+
+/// Failing calls and small capacities: the status, and the prefix of the output that was taken.
+#[test]
+fn faults_of_each_call(rt: HostRuntime) -> Result<(), Fail> {
+    let input = b"QSym.M[1]*QSym.M[];x;";
+    let whole: &[u8] = b"QSym.M[1]\nerror 20 in statement 2: not built yet\n";
+    let first: &[u8] = b"QSym.M[1]\n";
+    let read: &[u8] = b"hopf: read failed\n";
+    let write: &[u8] = b"hopf: write failed\n";
+    let usage: &[u8] = b"usage: hopf run\n";
+    let cases: [(&str, [&[u64]; 3], Status, &[u8], &[u8]); 10] = [
+        ("run", [&[1], &[], &[]], Status::ReadFault, b"", read),
+        ("run", [&[2], &[], &[]], Status::ReadFault, b"", read),
+        ("run", [&[3], &[], &[]], Status::Refused, whole, b""),
+        ("run", [&[], &[1], &[]], Status::WriteFault, b"", write),
+        ("run", [&[], &[2], &[]], Status::WriteFault, first, write),
+        ("run", [&[], &[3], &[]], Status::WriteFault, whole, write),
+        ("run", [&[], &[4], &[]], Status::Refused, whole, b""),
+        ("run", [&[1], &[1], &[1]], Status::ReadFault, b"", b""),
+        ("ran", [&[1], &[1], &[]], Status::Usage, b"", usage),
+        ("ran", [&[], &[], &[1]], Status::Usage, b"", b""),
+    ];
+    for (word, failing, status, output, message) in cases {
+        let answer = run_over(rt.alloc(), word, input, failing, 4096)?;
         assert_eq!(rt; answer.0, status);
         assert_eq!(rt; answer.1.as_slice(), output);
         assert_eq!(rt; answer.2.as_slice(), message);
     }
+    for capacity in 0..whole.len() {
+        let answer = run_over(rt.alloc(), "run", input, [&[], &[], &[]], capacity)?;
+        assert_eq!(rt; answer.0, Status::WriteFault);
+        assert_eq!(rt; answer.1.as_slice(), &whole[..capacity]);
+    }
+    let answer = run_over(rt.alloc(), "run", input, [&[], &[], &[]], whole.len())?;
+    assert_eq!(rt; answer.0, Status::Refused);
+    assert_eq!(rt; answer.1.as_slice(), whole);
+    Ok(())
+}
+
+// Feeds the bytes in pieces of this size, and ends the session.
+fn feed_pieces(
+    alloc: Global,
+    bytes: &[u8],
+    size: usize,
+    out: &mut MemorySink,
+) -> Result<(), SessionFault>
+    requires short { length bytes.now ≤ 4096 }
+    requires some { 0 < size }
+    requires small { size ≤ 4096 }
+{
+    let mut session = Session::new(alloc);
+    for start in 0..bytes.len() {
+        if start % size == 0 {
+            session.feed(&bytes[start..bytes.len().min(start + size)], out)?;
+        }
+    }
+    session.finish(out)
+}
+
+/// The output does not depend on how the bytes are cut into pieces.
+#[test]
+fn pieces_of_each_size(rt: HostRuntime) -> Result<(), Fail> {
+    let input: &[u8] = b"QSym.M[1]*QSym.M[1]; ;x;\n QSym.M[1,1]*QSym.M[1];z";
+    let answer = run_over(rt.alloc(), "run", input, [&[], &[], &[]], 4096)?;
+    assert!(rt; input.len() <= 4096);
+    for size in 1..input.len() + 1 {
+        let mut out = MemorySink::new(rt.alloc(), 4096, Calls::none(rt.alloc()))?;
+        assert!(rt; feed_pieces(rt.alloc(), input, size, &mut out).is_ok());
+        assert_eq!(rt; out.taken(), answer.1.as_slice());
+    }
+    Ok(())
+}
+
+/// Each single byte: a blank and `;` print nothing, and any other one is not built.
+#[test]
+fn single_bytes(rt: HostRuntime) -> Result<(), Fail> {
+    for byte in 0..=255u8 {
+        let answer = run_over(rt.alloc(), "run", &[byte], [&[], &[], &[]], 4096)?;
+        if matches!(byte, b' ' | b'\t' | b'\n' | b'\r' | b';') {
+            assert_eq!(rt; answer.0, Status::Ok);
+            assert_eq!(rt; answer.1.as_slice(), b"".as_slice());
+        } else {
+            assert_eq!(rt; answer.0, Status::Refused);
+            assert_eq!(rt; answer.1.as_slice(), NOT_BUILT);
+        }
+    }
+    Ok(())
+}
+
+// So many blanks.
+fn blanks(alloc: Global, pages: u32, more: &[u8]) -> Result<Bytes, Fail> {
+    let mut bytes = Bytes::new(alloc);
+    for _ in 0..pages {
+        bytes.push_all(&[b' '; 4096])?;
+    }
+    bytes.push_all(more)?;
+    Ok(bytes)
+}
+
+/// A text of 65,536 bytes and one of a byte more; leading blanks do not count. The limit of the input
+/// and one byte more.
+#[test]
+fn limits(rt: HostRuntime) -> Result<(), Fail> {
+    let product = b"QSym.M[1]*QSym.M[1]";
+    let square: &[u8] = b"2*QSym.M[1,1] + QSym.M[2]\n";
+    let cases: [(u32, &[u8], Status, &[u8]); 4] = [
+        (15, b";", Status::Ok, square),
+        (15, b" ;", Status::Refused, NOT_BUILT),
+        (16384, b"", Status::Ok, b""),
+        (16384, b" ", Status::InputLimit, b""),
+    ];
+    for (pages, end, status, output) in cases {
+        let mut input = Bytes::new(rt.alloc());
+        if pages < 100 {
+            input.push_all(product)?;
+            input.push_all(&[b' '; 4096 - 19])?;
+        }
+        input.push_all(blanks(rt.alloc(), pages, end)?.as_slice())?;
+        let answer = run_over(rt.alloc(), "run", input.as_slice(), [&[], &[], &[]], 4096)?;
+        assert_eq!(rt; answer.0, status);
+        assert_eq!(rt; answer.1.as_slice(), output);
+    }
+    let input = blanks(rt.alloc(), 17, b"QSym.M[1]*QSym.M[1];")?;
+    let answer = run_over(rt.alloc(), "run", input.as_slice(), [&[], &[], &[]], 4096)?;
+    assert_eq!(rt; answer.0, Status::Ok);
+    assert_eq!(rt; answer.1.as_slice(), square);
     Ok(())
 }
