@@ -7,3 +7,5 @@ pub mod Sums
 pub mod Coefficients
 pub mod ClassBases
 pub mod Uniqueness
+pub mod Pattern
+pub mod Linearity

@@ -5,6 +5,7 @@ pub mod Faults
 pub mod Indices
 pub mod Keys
 pub mod KeyOrder
+pub mod Laws
 pub mod Lists
 pub mod Points
 pub mod Readings

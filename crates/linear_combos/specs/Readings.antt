@@ -52,3 +52,7 @@ AgreeAt a b ps = numerator a ps *ℤ pos (denominator b) ≡ numerator b ps *ℤ
 -- one element of a basis
 abbrev pub element : Row → List ℕ → Reading
 element row code = leaf (row ∷ []) 1 ((pos 1, code ∷ []) ∷ [])
+
+-- the tensor of the basis elements of a key
+abbrev pub of_key : List Row → List (List ℕ) → Reading
+of_key rows key = leaf rows 1 ((pos 1, key) ∷ [])

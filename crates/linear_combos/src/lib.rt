@@ -9,6 +9,7 @@ mod code;
 mod codes;
 mod combo;
 mod key;
+mod laws;
 mod terms;
 #[cfg(test)]
 mod tests;
@@ -17,3 +18,4 @@ pub use code::Code;
 pub use codes::Codes;
 pub use combo::{Combo, ComboFault};
 pub use key::Key;
+pub use laws::{bilinearity_law, gathering_law, linearity_law, pattern_law, uniqueness_law};

@@ -1,0 +1,36 @@
+-- Laws of combinations and their readings. Public functions with empty bodies ensure them (`src/laws.rt`).
+use Rattle.std.specs.Prelude.{◌≡◌, ℕ, ℤ, ◌+ℤ◌, ◌*ℤ◌, List, length, map}
+use Rattle.linear_combos.specs.Rows.{Row, kind_of, patterns}
+use Rattle.linear_combos.specs.Indices.{AreIndices}
+use Rattle.linear_combos.specs.Readings.{Terms, leaf, product, numerator, of_key}
+use Rattle.linear_combos.specs.Combos.{AreTerms, AddsTerm, HasKey, weighed}
+
+-- the reading of a combination at points is that at their patterns
+abbrev pub PatternLaw : Type 0
+PatternLaw = (rows : List Row) (den : ℕ) (ts : Terms) (ps : List (List ℕ)) →
+    numerator (leaf rows den ts) ps ≡ numerator (leaf rows den ts) (patterns (map kind_of rows) ps)
+
+-- a combination reads as the sum of its numerators, each times the reading of its key
+abbrev pub LinearityLaw : Type 0
+LinearityLaw = (rows : List Row) (den : ℕ) (ts : Terms) (ps : List (List ℕ)) →
+    numerator (leaf rows den ts) ps ≡ weighed (λ key. numerator (of_key rows key) ps) ts
+
+-- terms to which a numerator times a key was added, like terms gathered, read as before and that numerator times the reading of the key
+abbrev pub GatheringLaw : Type 0
+GatheringLaw = (rows : List Row) (den : ℕ) (old new : Terms) (num : ℤ) (key : List (List ℕ)) (ps : List (List ℕ)) →
+    AddsTerm old new num key →
+    numerator (leaf rows den new) ps ≡ numerator (leaf rows den old) ps +ℤ (num *ℤ numerator (of_key rows key) ps)
+
+-- the product of two combinations reads as the sum over their pairs of terms of both numerators, times the reading of the product of their keys
+abbrev pub BilinearityLaw : Type 0
+BilinearityLaw = (rows : List Row) (d e : ℕ) (ts us : Terms) (ps : List (List ℕ)) →
+    numerator (product (leaf rows d ts) (leaf rows e us)) ps
+    ≡ weighed (λ key. weighed (λ key'. numerator (product (of_key rows key) (of_key rows key')) ps) us) ts
+
+-- over class bases, canonical terms that read alike at all tuples of points are the same
+abbrev pub UniquenessLaw : Type 0
+UniquenessLaw = (rows : List Row) (ts us : Terms) → AreTerms (length rows) ts → AreTerms (length rows) us →
+    ((key : List (List ℕ)) → HasKey ts key → AreIndices rows key) →
+    ((key : List (List ℕ)) → HasKey us key → AreIndices rows key) →
+    ((ps : List (List ℕ)) → length ps ≡ length rows → numerator (leaf rows 1 ts) ps ≡ numerator (leaf rows 1 us) ps) →
+    ts ≡ us

@@ -1,0 +1,45 @@
+//! Laws of combinations and their readings. A function here computes nothing: callers cite its
+//! clause.
+ghost use Rattle.linear_combos.specs.Laws.{PatternLaw, LinearityLaw, GatheringLaw, BilinearityLaw, UniquenessLaw};
+
+/// The reading of a combination is determined by the pattern of its points.
+///
+/// The pattern of exponents is what is left once zeros are left out: the coefficient of a monomial
+/// in a quasi-symmetric function depends on its exponents in order, and not on its letters (Gessel
+/// 1984). Nothing is computed: callers cite the clause.
+pub fn pattern_law()
+    ensures { PatternLaw }
+{}
+
+/// The reading of a combination is linear in its terms: it is the sum of the numerators, each times
+/// the reading of its key, the tensor of the key's basis elements.
+///
+/// Nothing is computed: callers cite the clause.
+pub fn linearity_law()
+    ensures { LinearityLaw }
+{}
+
+/// Gathering like terms keeps readings: once a numerator times a key was added to terms, they read
+/// as before and that numerator times the reading of the key.
+///
+/// Nothing is computed: callers cite the clause.
+pub fn gathering_law()
+    ensures { GatheringLaw }
+{}
+
+/// The product of readings is bilinear: the product of two combinations is the sum over their pairs
+/// of terms of both numerators, times the product of the two keys.
+///
+/// Nothing is computed: callers cite the clause.
+pub fn bilinearity_law()
+    ensures { BilinearityLaw }
+{}
+
+/// Terms in canonical form are unique: over one list of class bases, canonical terms that read alike
+/// at all tuples of points are equal.
+///
+/// For quasi-symmetric functions it is that the monomial ones are linearly independent (Gessel
+/// 1984). Nothing is computed: callers cite the clause.
+pub fn uniqueness_law()
+    ensures { UniquenessLaw }
+{}
