@@ -7,3 +7,4 @@ pub mod Sums
 pub mod Coefficients
 pub mod ClassBases
 pub mod Uniqueness
+pub mod Gathering
