@@ -2,9 +2,11 @@
 #![tactic(auto)]
 
 mod composition;
+mod laws;
 mod products;
 #[cfg(test)]
 mod tests;
 
 pub use composition::Composition;
+pub use laws::existence_law;
 pub use products::quasi_shuffle;

@@ -1,6 +1,7 @@
 pub mod Completeness
 pub mod Lexemes
 pub mod OneOutcome
+pub mod OneTranscript
 pub mod Runs
 pub mod Sessions
 pub mod Statements

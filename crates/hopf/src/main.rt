@@ -1,6 +1,7 @@
 //! `hopf`: reads a session of statements, and prints a line for each value and each refusal.
 #![tactic(auto)]
 
+mod laws;
 mod printing;
 mod product;
 mod reading;

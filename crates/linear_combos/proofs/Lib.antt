@@ -1,11 +1,12 @@
+pub mod ClassBases
+pub mod Coefficients
 pub mod Edits
+pub mod Gathering
+pub mod Linearity
 pub mod Numerals
+pub mod Pattern
 pub mod Place
 pub mod Ring
-pub mod Weights
 pub mod Sums
-pub mod Coefficients
-pub mod ClassBases
 pub mod Uniqueness
-pub mod Pattern
-pub mod Linearity
+pub mod Weights

@@ -1,4 +1,4 @@
-use Rattle.std.proofs.Common.{rules, ◌∙◌, List, ◌≡◌, ◌+◌, ◌≤◌, ◌++◌, ◌∷◌, [], ℕ, length, get_or, arith, ap, subst, sym, pos}
+use Rattle.std.proofs.Common.{rules, ◌∙◌, List, ◌≡◌, ◌+◌, ◌≤◌, ◌++◌, ◌∷◌, [], ℕ, length, get_or, arith, ap, subst, pos}
 use Rattle.std.proofs.lemmas.Result.{on_ok_weaker}
 use Rattle.linear_combos.specs.Readings.{Terms}
 use Rattle.linear_combos.specs.Combos.{AddsTerm}

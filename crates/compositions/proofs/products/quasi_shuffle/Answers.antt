@@ -1,4 +1,4 @@
-use Rattle.std.proofs.Common.{◌≡◌, ◌+◌, ◌≤◌, [], length, arith, ap, ◌∙◌}
+use Rattle.std.proofs.Common.{◌≡◌, ◌≤◌, [], length, arith, ◌∙◌}
 use Rattle.linear_combos.specs.Combos.{norm_of, IsCanonical}
 use Rattle.compositions.specs.QuasiShuffles.{quasi_shuffles, AddsShuffles}
 use Rattle.compositions.proofs.Parts.{length-le-sum, shuffles_bound}

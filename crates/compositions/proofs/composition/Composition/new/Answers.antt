@@ -1,4 +1,4 @@
-use Rattle.std.proofs.Common.{◌≡◌, ◌≤◌, arith}
+use Rattle.std.proofs.Common.{◌≤◌, arith}
 use Rattle.std.specs.List.{sum}
 use Rattle.compositions.specs.Sizes.{IsSmallComposition}
 use Rattle.compositions.proofs.Parts.{code_from_composition, composition_from_letters}

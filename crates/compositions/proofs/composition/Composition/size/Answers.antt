@@ -1,4 +1,4 @@
-use Rattle.std.proofs.Common.{◌≡◌, ◌≤◌, length, arith, ◌∙◌, rules}
+use Rattle.std.proofs.Common.{arith}
 use Rattle.compositions.proofs.Parts.{length-le-sum}
 use Rattle.compositions.proofs.composition.Composition.size.Goals as goal
 

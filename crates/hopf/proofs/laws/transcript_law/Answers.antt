@@ -1,0 +1,5 @@
+use Rattle.hopf.proofs.OneTranscript.{transcript_exists, script_once}
+use Rattle.hopf.proofs.laws.transcript_law.Goals as goal
+
+pub returns : goal.returns
+returns c bytes = let (outcomes, script) = transcript_exists bytes in (outcomes, script, λ others script'. script_once bytes others outcomes script' script)
