@@ -1,3 +1,4 @@
+pub mod Existence
 pub mod Lexemes
 pub mod OneOutcome
 pub mod Runs
