@@ -55,7 +55,7 @@ pub record BeginsList (lexemes : List Lexeme) (parts : List ℕ) (rest : List Le
   pub ends : (more : List ℕ) (behind : List Lexeme) → rest ≡ later_parts more ++ behind → lexemes ≡ list_lexemes (parts ++ more) ++ behind
   pub only : (all : List ℕ) (behind : List Lexeme) → lexemes ≡ list_lexemes all ++ behind → (more : List ℕ) × (rest ≡ later_parts more ++ behind)
 
-later_of_later : (part : ℕ) (rest : List Lexeme) (more : List ℕ) (behind : List Lexeme) → lexeme.Comma ∷ lexeme.Number part ∷ rest ≡ later_parts more ++ behind → (more : List ℕ) × (rest ≡ later_parts more ++ behind)
+pub later_of_later : (part : ℕ) (rest : List Lexeme) (more : List ℕ) (behind : List Lexeme) → lexeme.Comma ∷ lexeme.Number part ∷ rest ≡ later_parts more ++ behind → (more : List ℕ) × (rest ≡ later_parts more ++ behind)
 later_of_later part rest [] behind e = absurd (cc)
 later_of_later part rest (q ∷ more) behind e = (more, cc)
 
@@ -70,7 +70,7 @@ next_begins lexemes parts part rest next h front = record {
 pub ends_list : (lexemes : List Lexeme) (parts : List ℕ) (rest behind : List Lexeme) → BeginsList lexemes parts rest → rest ≡ lexeme.Close ∷ behind → lexemes ≡ list_lexemes parts ++ behind
 ends_list lexemes parts rest behind h e = subst (λ (ps : List ℕ). lexemes ≡ list_lexemes ps ++ behind) (append-nil parts) (h.ends [] behind e)
 
-nothing_later : (rest : List Lexeme) → ((part : ℕ) (more : List Lexeme) → rest ≡ lexeme.Comma ∷ lexeme.Number part ∷ more → ⊥) → ((more : List Lexeme) → rest ≡ lexeme.Close ∷ more → ⊥)
+pub nothing_later : (rest : List Lexeme) → ((part : ℕ) (more : List Lexeme) → rest ≡ lexeme.Comma ∷ lexeme.Number part ∷ more → ⊥) → ((more : List Lexeme) → rest ≡ lexeme.Close ∷ more → ⊥)
     → (more : List ℕ) (behind : List Lexeme) → rest ≡ later_parts more ++ behind → ⊥
 nothing_later rest no_part no_end [] behind e = no_end behind e
 nothing_later rest no_part no_end (q ∷ more) behind e = no_part q (later_parts more ++ behind) e
@@ -93,7 +93,7 @@ element_once lexemes a b x y p q =
     let t = q.spelled in
     list_once a b x y (cc)
 
-element_of_factor : (lexemes rest : List Lexeme) (index : List ℕ) → lexemes ≡ lexeme.Times ∷ rest → IsLastFactor lexemes index → IsElement rest index (lexeme.End ∷ [])
+pub element_of_factor : (lexemes rest : List Lexeme) (index : List ℕ) → lexemes ≡ lexeme.Times ∷ rest → IsLastFactor lexemes index → IsElement rest index (lexeme.End ∷ [])
 element_of_factor lexemes rest index e is = let s = is.spelled in record { within = is.within; spelled = cc }
 
 pub no_end : (lexemes rest more : List Lexeme) (index : List ℕ) → lexemes ≡ lexeme.Times ∷ rest → IsElement rest index more → (more ≡ lexeme.End ∷ [] → ⊥) → HasNoLastFactor lexemes

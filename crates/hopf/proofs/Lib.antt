@@ -1,4 +1,5 @@
 pub mod Completeness
+pub mod Existence
 pub mod Lexemes
 pub mod OneOutcome
 pub mod OneTranscript

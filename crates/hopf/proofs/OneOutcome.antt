@@ -1,5 +1,5 @@
 -- A text has one outcome.
-use Rattle.std.proofs.Common.{◌≡◌, ◌≢◌, ℕ, ◌+◌, ◌<◌, ◌≤◌, List, [], ◌∷◌, length, refl, sym, ◌∙◌, ap, subst, arith, pos}
+use Rattle.std.proofs.Common.{◌≡◌, ℕ, ◌+◌, ◌≤◌, List, [], ◌∷◌, length, refl, sym, ◌∙◌, ap, subst, arith}
 use Rattle.std.specs.List.{sum}
 use Rattle.linear_combos.specs.Answers.{IsAnswer}
 use Rattle.linear_combos.specs.Combos.{Combination}
@@ -7,8 +7,8 @@ use Rattle.linear_combos.specs.Readings.{Reading, AgreeAt, leaf, denominator, el
 use Rattle.linear_combos.specs.Rows.{qsym_m}
 use Rattle.linear_combos.proofs.Uniqueness.{unique_reading}
 use Rattle.hopf.specs.declared.statement.Outcome.{Outcome}
-use Rattle.hopf.specs.declared.statement.Outcome.TheVariants.{Empty, Printed, Refused}
-use Rattle.hopf.specs.declared.statement.StatementRefusal.TheVariants.{NotBuilt, Degree}
+use Rattle.hopf.specs.declared.statement.Outcome.TheVariants.{Printed, Refused}
+use Rattle.hopf.specs.declared.statement.StatementRefusal.TheVariants.{Degree}
 use Rattle.hopf.specs.Outcomes.{IsOutcome, empty, printed, past_limit, not_built}
 use Rattle.hopf.specs.declared.product.Lexeme.TheVariants as lexeme
 use Rattle.hopf.specs.declared.tokens.Kind.TheVariants as kind

@@ -1,5 +1,5 @@
 -- What a session says of the whole input.
-use Rattle.std.proofs.Common.{◌≡◌, ℕ, ◌≤◌, List, [], ◌++◌, length, Option, Some, None, Result, Err, IsErrOf, IfSome, ap, ◌∙◌, sym, subst, append-nil}
+use Rattle.std.proofs.Common.{◌≡◌, ℕ, ◌≤◌, List, [], ◌++◌, length, Option, Some, None, Err, IsErrOf, IfSome, ap, ◌∙◌, sym, subst, append-nil}
 use Rattle.std.specs.Io.KnownBytes.{Consumes, IsAtEnd}
 use Rattle.hopf.specs.declared.statement.Outcome.{Outcome}
 use Rattle.hopf.specs.declared.session.Session.{Session}
@@ -7,7 +7,7 @@ use Rattle.hopf.specs.declared.session.SessionFault.{SessionFault}
 use Rattle.hopf.specs.declared.session.SessionFault.TheVariants.{Write}
 use Rattle.hopf.specs.declared.status.Status.{Status}
 use Rattle.hopf.specs.declared.status.Status.TheVariants.{Memory, WriteFault}
-use Rattle.hopf.specs.Transcript.{IsScript, lines}
+use Rattle.hopf.specs.Transcript.{lines}
 use Rattle.hopf.specs.Sessions.{Script, StopsWhole}
 use Rattle.hopf.specs.Runs.{WritesPrefix, HasRoom}
 

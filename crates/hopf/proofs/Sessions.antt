@@ -1,15 +1,15 @@
 -- How a session goes on from piece to piece.
-use Rattle.std.proofs.Common.{◌≡◌, ℕ, ◌+◌, ◌-◌, ◌<◌, ◌≤◌, List, [], ◌∷◌, ◌++◌, length, take, drop, get_or, Bool, true, false, ◌||◌, ◌==◌, Option, Some, Result, Ok, Err, refl, ap, ◌∙◌, sym, subst, rules, arith, append_assoc, append-nil, length-append, add-one, drop-cons, take-append-drop}
+use Rattle.std.proofs.Common.{◌≡◌, ℕ, ◌+◌, ◌-◌, ◌<◌, ◌≤◌, List, [], ◌∷◌, ◌++◌, length, take, drop, get_or, Bool, true, false, ◌||◌, ◌==◌, Option, Some, Result, Err, refl, ap, ◌∙◌, sym, subst, arith, append_assoc, append-nil, length-append, add-one, drop-cons, take-append-drop}
 use Rattle.std.proofs.Math.Bool.{or_assoc}
 use Rattle.std.specs.Io.KnownBytes.{Appends}
 use Rattle.std.proofs.KnownBytes.{Appends-nil, Appends-trans}
-use Rattle.hopf_io.specs.Prefixes.{IsPrefix, AppendsPrefix}
+use Rattle.hopf_io.specs.Prefixes.{AppendsPrefix}
 use Rattle.hopf_io.specs.Steady.{SendsSteadily}
 use Rattle.hopf_io.specs.declared.source.Failed.{Failed}
 use Rattle.hopf.specs.declared.statement.Outcome.{Outcome}
 use Rattle.hopf.specs.declared.session.Session.{Session}
 use Rattle.hopf.specs.declared.session.SessionFault.{SessionFault}
-use Rattle.hopf.specs.Outcomes.{IsOutcome, line_of, is_refusal}
+use Rattle.hopf.specs.Outcomes.{line_of, is_refusal}
 use Rattle.hopf.proofs.OneOutcome.{outcome_once}
 use Rattle.hopf.specs.Tokens.{is_blank}
 use Rattle.hopf.specs.Transcript.{is_end, IsScript, lines, some_refused, unfinished, IsText}

@@ -1,7 +1,6 @@
-use Rattle.std.proofs.Common.{◌≡◌, ℕ, List, rules, IfSome}
+use Rattle.std.proofs.Common.{◌≡◌}
 use Rattle.hopf.specs.declared.status.Status.TheVariants.{WriteFault}
 use Rattle.hopf.specs.declared.session.SessionFault.TheVariants.{Write}
-use Rattle.hopf.specs.Runs.{WritesPrefix, HasRoom}
 use Rattle.hopf.proofs.Runs.{at_left, prefix_of_new, never_of_new, not_both}
 use Rattle.hopf.proofs.run.run_session.Goals as goal
 use Rattle.hopf.proofs.run.run_session.Goals.{in-Write, in-Memory}

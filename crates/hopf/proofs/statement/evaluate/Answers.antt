@@ -1,4 +1,4 @@
-use Rattle.std.proofs.Common.{◌≡◌, ◌+◌, ◌<◌, ◌≤◌, arith, sym, ◌∙◌, ap}
+use Rattle.std.proofs.Common.{◌≡◌, ◌+◌, arith, ap}
 use Rattle.std.specs.List.{sum}
 use Rattle.std.proofs.lemmas.Option.{MatchOption-at_some}
 use Rattle.hopf.specs.declared.statement.Outcome.TheVariants.{Printed, Refused}

@@ -1,6 +1,5 @@
-use Rattle.std.proofs.Common.{◌≡◌, ◌+◌, ◌≤◌, rules, refl}
+use Rattle.std.proofs.Common.{rules, refl}
 use Rattle.std.proofs.lemmas.Result.{err_from_is_err_and}
-use Rattle.hopf.specs.Sessions.{WritesIfSteady}
 use Rattle.hopf.proofs.Sessions.{advances_end, stops_end, steady_end, advances_byte, advances_blank}
 use Rattle.hopf.proofs.session.Session.feed_byte.Goals as goal
 

@@ -1,6 +1,6 @@
-use Rattle.std.proofs.Common.{◌≡◌, ℕ, ◌≤◌, ◌++◌, [], List, length, rules, sym, subst, append-nil}
+use Rattle.std.proofs.Common.{◌++◌, [], append-nil}
 use Rattle.std.proofs.lemmas.Result.{err_from_is_err_and}
-use Rattle.hopf.specs.Sessions.{Script, last_of}
+use Rattle.hopf.specs.Sessions.{Script}
 use Rattle.hopf.proofs.Sessions.{runs_whole, stops_whole, stops_at_end, room_at_end}
 use Rattle.hopf.proofs.session.Session.run_all.Goals as goal
 
