@@ -4,6 +4,7 @@ use Rattle.std.proofs.Math.IntN.{pos, ◌*ℤ◌}
 use Rattle.std.proofs.lemmas.Int.{ints}
 use Rattle.std.specs.List.{flat_map}
 use Rattle.std.specs.List.{sum}
+use Rattle.linear_combos.proofs.OnePoint.{at_one_point}
 use Rattle.linear_combos.specs.Answers.{IsAnswer}
 use Rattle.linear_combos.specs.Combos.{Combination, IsCanonical, HasKey, norm_of}
 use Rattle.linear_combos.specs.Indices.{IsComposition, AreIndices, total_degree}
@@ -57,12 +58,6 @@ index_of_key n key (code, is, composition, size) = rw is (composition, tt)
 
 degree_of_key : (n : ℕ) (key : List (List ℕ)) → IsKeyOf n key → total_degree (qsym_m ∷ []) key ≡ n
 degree_of_key n key (code, is, composition, size) = rw is (omega (arith, size))
-
--- a tuple of one point
-at_one_point : (P : List (List ℕ) → Type 0) → ((p : List ℕ) → P (p ∷ [])) → (ps : List (List ℕ)) → length ps ≡ 1 → P ps
-at_one_point P h [] e = absurd (omega arith)
-at_one_point P h (p ∷ []) e = h p
-at_one_point P h (p ∷ q ∷ ps) e = absurd (omega arith)
 
 -- the sum of the quasi-shuffles is the answer of the product of two elements
 pub shuffles_answer : (j k : List ℕ) (c : Combination) → IsCanonical c.rank c.den c.terms → IsComposition j → IsComposition k → c.rank ≡ 1 → c.den ≡ 1

@@ -1,6 +1,7 @@
 -- A text has one outcome.
-use Rattle.std.proofs.Common.{◌≡◌, ℕ, ◌+◌, ◌≤◌, List, [], ◌∷◌, length, refl, sym, ◌∙◌, ap, subst, arith}
+use Rattle.std.proofs.Common.{◌≡◌, ℕ, ◌+◌, ◌≤◌, List, [], ◌∷◌, refl, sym, ◌∙◌, ap, subst, arith}
 use Rattle.std.specs.List.{sum}
+use Rattle.linear_combos.proofs.OnePoint.{at_one_point}
 use Rattle.linear_combos.specs.Answers.{IsAnswer}
 use Rattle.linear_combos.specs.Combos.{Combination}
 use Rattle.linear_combos.specs.Readings.{Reading, AgreeAt, leaf, denominator, element, product}
@@ -18,12 +19,6 @@ use Rattle.hopf.specs.Tokens.{AreTokens, at_end, token}
 use Rattle.hopf.specs.Text.{value_text}
 use Rattle.hopf.specs.Values.{IsValueOf}
 use Rattle.hopf.proofs.Lexemes.{product_once}
-
--- a tuple of one point
-at_one_point : (P : List (List ℕ) → Type 0) → ((p : List ℕ) → P (p ∷ [])) → (ps : List (List ℕ)) → length ps ≡ 1 → P ps
-at_one_point P h [] e = absurd (omega arith)
-at_one_point P h (p ∷ []) e = h p
-at_one_point P h (p ∷ q ∷ ps) e = absurd (omega arith)
 
 -- the answer of a rule is the value that reads so
 pub value_from_answer : (n : ℕ) (r : Reading) (c : Combination) → IsAnswer (qsym_m ∷ []) n r c → IsValueOf r c

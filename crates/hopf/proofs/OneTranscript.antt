@@ -1,5 +1,5 @@
 -- Every list of bytes has one transcript.
-use Rattle.std.proofs.Common.{◌≡◌, ℕ, ◌+◌, ◌≤◌, List, [], ◌∷◌, Bool, true, false, MatchBool, sym, ◌∙◌, ap, subst, arith}
+use Rattle.std.proofs.Common.{◌≡◌, ℕ, ◌+◌, ◌≤◌, List, [], ◌∷◌, Bool, true, false, MatchBool, sym, ◌∙◌, arith}
 use Rattle.std.specs.List.{sum, slice_split}
 use Rattle.linear_combos.specs.Combos.{Combination}
 use Rattle.linear_combos.specs.Readings.{element, product}

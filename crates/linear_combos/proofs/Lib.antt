@@ -4,6 +4,7 @@ pub mod Edits
 pub mod Gathering
 pub mod Linearity
 pub mod Numerals
+pub mod OnePoint
 pub mod Pattern
 pub mod Place
 pub mod Ring

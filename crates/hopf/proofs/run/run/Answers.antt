@@ -1,4 +1,4 @@
-use Rattle.std.proofs.Common.{◌≡◌, ◌+◌, ◌<◌, ◌≤◌, true, false, arith, sym, ◌∙◌}
+use Rattle.std.proofs.Common.{◌≡◌, ◌+◌, ◌<◌, true, false, arith, sym, ◌∙◌}
 use Rattle.hopf_io.specs.Faults.{Rose}
 use Rattle.hopf.specs.declared.reading.TheConstants.{INPUT_LIMIT}
 use Rattle.hopf.proofs.Completeness.{done_or_memory}
