@@ -39,6 +39,7 @@ line_of k Empty = []
 line_of k (Printed text) = text ++ 10 ∷ []
 line_of k (Refused refusal) = refusal_line k refusal
 
+-- the outcome is a refusal
 abbrev pub is_refusal : Outcome → Bool
 is_refusal Empty = false
 is_refusal (Printed text) = false

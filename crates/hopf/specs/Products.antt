@@ -34,6 +34,7 @@ lexeme_of kind.End bytes = lexeme.End
 abbrev pub bytes_of : List ℕ → Token → List ℕ
 bytes_of text token = take token.length (drop (token.place - 1) text)
 
+-- what each token of the text is in a product
 abbrev pub lexemes_of : List ℕ → List Token → List Lexeme
 lexemes_of text tokens = map (λ token. lexeme_of token.kind (bytes_of text token)) tokens
 

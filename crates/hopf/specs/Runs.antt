@@ -7,6 +7,7 @@ use Rattle.hopf.specs.declared.status.Status.{Status}
 use Rattle.hopf.specs.declared.status.Status.TheVariants.{Refused}
 use Rattle.hopf.specs.Transcript.{IsScript, lines, some_refused}
 
+-- the status says that a statement was refused
 abbrev pub is_refused : Status → Bool
 is_refused Refused = true
 is_refused _ = false

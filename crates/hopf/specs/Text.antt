@@ -4,6 +4,7 @@ use Rattle.std.specs.Fmt.{decimal}
 use Rattle.linear_combos.specs.Readings.{Terms}
 use Rattle.linear_combos.specs.Rows.{Row, qsym_m}
 
+-- the name of a basis
 abbrev pub name_of : Row → List ℕ
 name_of qsym_m = codes "QSym.M"
 
@@ -28,18 +29,21 @@ key_text (row ∷ next ∷ rows) (code ∷ key) = name_of row ++ spelled row cod
 abbrev pub coefficient_text : ℕ → List ℕ
 coefficient_text n = if n == 1 then [] else decimal n ++ codes "*"
 
+-- a term without its sign
 abbrev pub term_text : List Row → ℤ → List (List ℕ) → List ℕ
 term_text rows num key = coefficient_text (unsigned_abs num) ++ key_text rows key
 
--- what stands before the first term, and before each later one
+-- what stands before the first term
 abbrev pub first_sign : ℤ → List ℕ
 first_sign (pos n) = []
 first_sign (negsuc n) = codes "-"
 
+-- what stands before each later term
 abbrev pub later_sign : ℤ → List ℕ
 later_sign (pos n) = codes " + "
 later_sign (negsuc n) = codes " - "
 
+-- the terms behind the first one
 abbrev pub later_terms_text : List Row → Terms → List ℕ
 later_terms_text rows [] = []
 later_terms_text rows (t ∷ ts) = later_sign t.0 ++ term_text rows t.0 t.1 ++ later_terms_text rows ts

@@ -8,6 +8,7 @@ use Rattle.hopf.specs.declared.tokens.Token.{Token}
 abbrev pub is_blank : ℕ → Bool
 is_blank b = nat_eq b 32 || nat_eq b 9 || nat_eq b 10 || nat_eq b 13
 
+-- 0 to 9
 abbrev pub is_digit : ℕ → Bool
 is_digit b = nat_le 48 b && nat_le b 57
 
@@ -34,10 +35,12 @@ unfoldable pub word_run : List ℕ → ℕ
 word_run [] = 0
 word_run (b ∷ bs) = if is_word_byte b then 1 + word_run bs else 0
 
+-- the byte b stands in front
 abbrev pub starts_with_byte : ℕ → List ℕ → Bool
 starts_with_byte b [] = false
 starts_with_byte b (c ∷ cs) = nat_eq c b
 
+-- a kind and a length
 abbrev pub sized : Kind → ℕ → Kind × ℕ
 sized k n = (k, n)
 
@@ -50,6 +53,7 @@ first_token b bs =
     else (if (nat_eq b 58 || nat_eq b 61) && starts_with_byte 61 bs then sized kind.Sign 2
     else sized kind.Other 1)))
 
+-- the token of a kind at a place with a length
 abbrev pub token : Kind → ℕ → ℕ → Token
 token k p n = record { kind = k; place = p; length = n }
 

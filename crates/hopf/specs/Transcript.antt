@@ -21,6 +21,7 @@ abbrev pub unfinished : List ℕ → List Outcome
 unfinished [] = []
 unfinished (c ∷ text) = Refused NotBuilt ∷ []
 
+-- no part is left
 abbrev pub is_none : List (List ℕ) → Bool
 is_none [] = true
 is_none (part ∷ parts) = false
@@ -40,9 +41,11 @@ abbrev pub lines : ℕ → List Outcome → List ℕ
 lines k [] = []
 lines k (outcome ∷ rest) = line_of (k + 1) outcome ++ lines (k + 1) rest
 
+-- one of the outcomes is a refusal
 abbrev pub some_refused : List Outcome → Bool
 some_refused = list_any is_refusal
 
+-- a blank stands in front
 abbrev pub starts_blank : List ℕ → Bool
 starts_blank [] = false
 starts_blank (c ∷ text) = is_blank c

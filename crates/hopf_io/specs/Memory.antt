@@ -23,6 +23,7 @@ abbrev pub room_unless_failing : List ℕ → ℕ → Option ℕ
 room_unless_failing [] room = Some room
 room_unless_failing (call ∷ failing) room = None
 
+-- the room of a sink that is steady: one of which no call is to fail
 abbrev pub steady_room : SinkState → Option ℕ
 steady_room s = room_unless_failing s.failing s.room
 

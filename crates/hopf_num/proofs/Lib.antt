@@ -1,1 +1,7 @@
+pub mod CommonDivisors
+pub mod LowestTerms
 pub mod Powers
+pub mod Ring
+pub mod RoomOfSums
+pub mod SumsOfProducts
+pub mod SumsOfRatios

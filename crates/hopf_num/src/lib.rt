@@ -1,13 +1,19 @@
-//! The numbers of the calculator: the room that coefficients have, and want of memory.
+//! The numbers of the calculator: exact fractions, the room that numbers have, and want of memory.
 //!
-//! Every number that is kept lies below 2^127 in absolute value. Whether a sum or a product has
-//! that room is tested before it is made, and a refusal carries the numbers that it was about.
+//! Every number that is kept lies below 2^127 in absolute value. Whether an answer has that room is
+//! tested before it is made, and a refusal carries the numbers that it was about. No call of this
+//! crate takes memory.
 #![tactic(auto)]
 
+mod checked;
+mod divisors;
+mod fraction;
 mod memory;
 mod room;
 #[cfg(test)]
 mod tests;
 
+pub use divisors::{gcd, lcm};
+pub use fraction::Fraction;
 pub use memory::OutOfMemory;
-pub use room::{Need, fits};
+pub use room::{Need, NumFault, fits};

@@ -21,3 +21,13 @@ fn fits_below_the_limit(rt: HostRuntime) {
         );
     }
 }
+
+#[test]
+fn fractions_of_an_example(rt: HostRuntime) {
+    let half = Fraction::new(-3, -6).expect(&rt, "1/2");
+    let third = Fraction::new(2, 6).expect(&rt, "1/3");
+    let sum = half.add(&third).expect(&rt, "5/6");
+    assert_eq!(rt; (sum.num(), sum.den()), (5, 6));
+    let product = sum.mul(&half.neg()).expect(&rt, "-5/12");
+    assert_eq!(rt; (product.num(), product.den()), (-5, 12));
+}

@@ -7,7 +7,6 @@ pub mod Numerals
 pub mod OnePoint
 pub mod Pattern
 pub mod Place
-pub mod Ring
 pub mod Sums
 pub mod Uniqueness
 pub mod Weights

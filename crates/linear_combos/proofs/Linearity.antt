@@ -7,7 +7,7 @@ use Rattle.linear_combos.specs.Rows.{Row, kind_of}
 use Rattle.linear_combos.specs.Readings.{Terms, leaf, occurrence, numerator, of_key, all_cuts}
 use Rattle.linear_combos.specs.Combos.{weighed}
 use Rattle.linear_combos.specs.Laws.{LinearityLaw, GatheringLaw, BilinearityLaw}
-use Rattle.linear_combos.proofs.Ring.{*ℤ-+ℤ, *ℤ_assoc}
+use Rattle.hopf_num.proofs.Ring.{*ℤ-+ℤ, *ℤ_assoc}
 use Rattle.linear_combos.proofs.Coefficients.{Codes}
 
 -- a key reads as its occurrence

@@ -5,7 +5,7 @@ use Rattle.linear_combos.specs.Rows.{Row}
 use Rattle.linear_combos.specs.Indices.{AreIndices}
 use Rattle.linear_combos.specs.Readings.{Terms, Reading, leaf, occurrence, numerator, denominator, AgreeAt}
 use Rattle.linear_combos.specs.Combos.{Combination, IsCanonical, AreTerms, HasKey, key_cmp, term_at}
-use Rattle.linear_combos.proofs.Ring.{*ℤ-pos_cancel}
+use Rattle.hopf_num.proofs.Ring.{*ℤ-pos_cancel}
 use Rattle.linear_combos.proofs.Coefficients.{Codes, counts, coefficient, IsTermOf, Each, each_from, rising_from, same_terms, weighed_same}
 use Rattle.linear_combos.proofs.ClassBases.{representatives, occurrence-representatives, length-representatives}
 

@@ -9,6 +9,7 @@ use Rattle.std.specs.Cmp.Lexicographic.{slice_cmp}
 use Rattle.linear_combos.specs.Lists.{int_sum}
 use Rattle.linear_combos.specs.Readings.{Terms}
 
+-- what a combination is made of: the number of codes of its keys, a denominator, and pairs of a numerator and a key
 pub record Combination : Type 0 where
   pub rank : ℕ
   pub den : ℕ
@@ -22,6 +23,7 @@ key_cmp a b = slice_cmp (slice_cmp nat_cmp) a b
 abbrev pub norm_of : Terms → ℕ
 norm_of ts = sum_by (λ t. unsigned_abs t.0) ts
 
+-- the term at a place, counted from 0
 abbrev pub term_at : Terms → ℕ → ℤ × List (List ℕ)
 term_at ts i = slice_index_or ts i (pos 0, [])
 

@@ -36,6 +36,7 @@ all_cuts (kind ∷ kinds) [] = []
 all_cuts (kind ∷ kinds) (p ∷ ps) =
     flat_map (λ c. map (λ d. (c.0 ∷ d.0, c.1 ∷ d.1)) (all_cuts kinds ps)) (cuts kind p)
 
+-- the denominator of a reading
 abbrev pub denominator : Reading → ℕ
 denominator (leaf rows den terms) = den
 denominator (product a b) = denominator a * denominator b

@@ -11,6 +11,7 @@ pub data Row : Type 0 where
 pub data Kind : Type 0 where
   exponents : Kind
 
+-- the kind of the points at which a basis is read
 abbrev pub kind_of : Row → Kind
 kind_of qsym_m = exponents
 

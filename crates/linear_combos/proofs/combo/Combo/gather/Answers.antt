@@ -6,7 +6,8 @@ use Rattle.std.proofs.lemmas.Int.{to_z-of_z}
 use Rattle.std.proofs.lemmas.List.{get_or_default}
 use Rattle.std.proofs.lemmas.List.Sums.{sum_by-remove, sum_by-set, get_or-le-sum_by}
 use Rattle.linear_combos.specs.Combos.{norm_of, term_at}
-use Rattle.linear_combos.proofs.Numerals.{abs_sum, sum_is, fits_abs, part_is}
+use Rattle.hopf_num.proofs.SumsOfProducts.{abs_sum}
+use Rattle.linear_combos.proofs.Numerals.{sum_is, fits_abs, part_is}
 use Rattle.linear_combos.proofs.Edits.{remove_terms, set_terms, lowest_one, keys-remove, keys-set}
 use Rattle.linear_combos.proofs.Weights.{weighed-remove, weighed-set}
 use Rattle.linear_combos.proofs.combo.Combo.gather.Goals as goal
