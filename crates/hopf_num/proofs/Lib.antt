@@ -1,4 +1,5 @@
 pub mod CommonDivisors
+pub mod DecimalSteps
 pub mod LowestTerms
 pub mod Powers
 pub mod Ring

@@ -1,5 +1,6 @@
 -- Fractions: a whole numerator over a positive denominator.
-use Rattle.std.specs.Prelude.{ℕ, ◌^◌, ◌<◌, ◌≤◌, ℤ, unsigned_abs}
+use Rattle.std.specs.Prelude.{ℕ, ◌^◌, ◌<◌, ◌≤◌, ℤ, List, [], ◌++◌, ◌==◌, if◌then◌else◌, codes, unsigned_abs}
+use Rattle.std.specs.Fmt.{decimal, signed_decimal}
 use Rattle.std.specs.Int.{IsGcd}
 
 -- a numerator over a denominator
@@ -13,3 +14,11 @@ pub record IsFraction (r : Ratio) : Type 0 where
   pub lowest : IsGcd (unsigned_abs r.num) r.den 1
   pub num_small : unsigned_abs r.num < 2 ^ 127
   pub den_small : r.den < 2 ^ 127
+
+-- a denominator in the text of a fraction: left out where it is 1
+abbrev pub over_text : ℕ → List ℕ
+over_text den = if den == 1 then [] else codes "/" ++ decimal den
+
+-- the decimal text of a fraction
+abbrev pub fraction_text : Ratio → List ℕ
+fraction_text r = signed_decimal r.num ++ over_text r.den

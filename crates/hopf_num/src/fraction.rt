@@ -1,12 +1,13 @@
 //! Exact fractions.
-ghost use Rattle.std.specs.Prelude.{◌≡◌, ◌≢◌, ◌↔◌, ◌^◌, ◌<◌, ◌≤◌, ◌/◌, ℕ, pos, [], ◌∷◌, ◌+ℤ◌, ◌*ℤ◌, neg_ℤ, unsigned_abs, Err, IfOk};
+ghost use Rattle.std.specs.Prelude.{◌≡◌, ◌≢◌, ◌↔◌, ◌^◌, ◌<◌, ◌≤◌, ◌/◌, ℕ, pos, [], ◌∷◌, ◌+ℤ◌, ◌*ℤ◌, neg_ℤ, unsigned_abs, length, take, Err, IfOk};
 ghost use Rattle.hopf_num.specs.Divisors.{IsLcm};
-ghost use Rattle.hopf_num.specs.Fractions.{Ratio, IsFraction};
+ghost use Rattle.hopf_num.specs.Fractions.{Ratio, IsFraction, fraction_text};
 ghost use Rattle.hopf_num.specs.Room.{TestsRoom, product_rule, sum_rule};
 ghost use Rattle.hopf_num.specs.declared.room.Need.TheVariants.{CommonDenominator, Denominator, Linear, Sum};
 ghost use Rattle.hopf_num.specs.declared.room.NumFault.TheVariants.{ZeroDivisor};
 
 use crate::checked::{negation, product, quotient, sum_of_products};
+use crate::decimal::{put_decimal, put_signed};
 use crate::{Need, NumFault, gcd, lcm};
 use std::marker::Model;
 
@@ -118,6 +119,20 @@ impl Fraction {
             num: negation(self.num),
             den: self.den,
         }
+    }
+
+    /// Puts the decimal text at the front, and answers its length: `p`, or `p/q` where the
+    /// denominator `q` is not 1.
+    pub fn write(&self, out: &mut [u8; 80]) -> usize
+        ensures text { take result out.new ≡ fraction_text self.now }
+        ensures len { result ≡ length (fraction_text self.now) }
+    {
+        let end = put_signed(self.num, out);
+        if self.den == 1 {
+            return end;
+        }
+        out[end] = b'/';
+        put_decimal(self.den, out, end + 1)
     }
 
     // The sum, over the least common multiple of the denominators.

@@ -6,6 +6,7 @@
 #![tactic(auto)]
 
 mod checked;
+mod decimal;
 mod divisors;
 mod fraction;
 mod memory;

@@ -30,4 +30,7 @@ fn fractions_of_an_example(rt: HostRuntime) {
     assert_eq!(rt; (sum.num(), sum.den()), (5, 6));
     let product = sum.mul(&half.neg()).expect(&rt, "-5/12");
     assert_eq!(rt; (product.num(), product.den()), (-5, 12));
+    let mut text = [0; 80];
+    let length = product.write(&mut text);
+    assert_eq!(rt; &text[..length], b"-5/12".as_slice());
 }
