@@ -4,7 +4,7 @@ use Rattle.std.specs.Prelude.{nat_eq, if◌then◌else◌}
 use Rattle.std.proofs.Math.Dec.{eqb-suc-zero, eqb-zero-suc, eqb-suc-suc}
 use Rattle.linear_combos.specs.Indices.{IsComposition}
 use Rattle.linear_combos.specs.Lists.{same_list, one_if}
-use Rattle.linear_combos.specs.Points.{number_cuts, exponent_cuts, without_zeros}
+use Rattle.linear_combos.specs.Exponents.{number_cuts, exponent_cuts, without_zeros}
 use Rattle.linear_combos.specs.Rows.{qsym_m, occurs}
 use Rattle.linear_combos.proofs.Sums.{sums, sums-append, sums-map, sums-flat_map, sums_same, sums-add, sums_none, sums_four, one_if_same, over_cuts, over_cuts_single}
 use Rattle.compositions.specs.QuasiShuffles.{quasi_shuffles}

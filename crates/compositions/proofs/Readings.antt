@@ -9,7 +9,7 @@ use Rattle.linear_combos.specs.Answers.{IsAnswer}
 use Rattle.linear_combos.specs.Combos.{Combination, IsCanonical, HasKey, norm_of}
 use Rattle.linear_combos.specs.Indices.{IsComposition, AreIndices, total_degree}
 use Rattle.linear_combos.specs.Lists.{int_sum}
-use Rattle.linear_combos.specs.Points.{exponent_cuts}
+use Rattle.linear_combos.specs.Exponents.{exponent_cuts}
 use Rattle.linear_combos.specs.Readings.{Terms, leaf, product, element, numerator, all_cuts, occurrence, AgreeAt}
 use Rattle.linear_combos.specs.Rows.{qsym_m}
 use Rattle.linear_combos.proofs.Sums.{sums}

@@ -1,6 +1,7 @@
 -- A text has one outcome.
 use Rattle.std.proofs.Common.{◌≡◌, ℕ, ◌+◌, ◌≤◌, List, [], ◌∷◌, refl, sym, ◌∙◌, ap, subst, arith}
 use Rattle.std.specs.List.{sum}
+use Rattle.linear_combos.proofs.ClassBases.{monomial_class}
 use Rattle.linear_combos.proofs.OnePoint.{at_one_point}
 use Rattle.linear_combos.specs.Answers.{IsAnswer}
 use Rattle.linear_combos.specs.Combos.{Combination}
@@ -30,7 +31,7 @@ value_from_answer n r c h = record {
 -- values that read alike are equal
 pub value_once : (r : Reading) (c d : Combination) → 1 ≤ denominator r → IsValueOf r c → IsValueOf r d → c.terms ≡ d.terms
 value_once r c d positive h k =
-    unique_reading (qsym_m ∷ []) r c d h.value.canonical k.value.canonical h.value.rank k.value.rank h.value.whole k.value.whole positive h.value.indices k.value.indices
+    unique_reading (qsym_m ∷ []) r c d (monomial_class, tt) h.value.canonical k.value.canonical h.value.rank k.value.rank h.value.whole k.value.whole positive h.value.indices k.value.indices
     (at_one_point (AgreeAt (leaf (qsym_m ∷ []) c.den c.terms) r) h.reads)
     (at_one_point (AgreeAt (leaf (qsym_m ∷ []) d.den d.terms) r) k.reads)
 

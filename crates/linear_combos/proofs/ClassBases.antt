@@ -9,22 +9,13 @@ use Rattle.std.specs.Ordering.{nat_cmp, ordering_then}
 use Rattle.std.specs.Cmp.{nat_cmp_is}
 use Rattle.std.specs.Cmp.Lexicographic.{slice_cmp}
 use Rattle.linear_combos.specs.Lists.{same_list, one_if}
-use Rattle.linear_combos.specs.Points.{without_zeros}
+use Rattle.linear_combos.specs.Exponents.{without_zeros}
 use Rattle.linear_combos.specs.Rows.{Row, qsym_m, occurs}
-use Rattle.linear_combos.specs.Indices.{IsComposition, IsIndex, AreIndices}
+use Rattle.linear_combos.specs.Indices.{IsComposition, AreIndices}
+use Rattle.linear_combos.specs.ClassBases.{IsClassBasis, AreClassBases}
 use Rattle.linear_combos.specs.Readings.{occurrence}
 use Rattle.linear_combos.specs.Combos.{key_cmp}
 use Rattle.linear_combos.proofs.Coefficients.{Codes, counts}
-
--- the representative of an index: of a composition, itself
-abbrev pub representative : Row → List ℕ → List ℕ
-representative qsym_m code = code
-
--- the representatives of the codes of a key
-abbrev pub representatives : List Row → Codes → Codes
-representatives [] key = []
-representatives (row ∷ rows) [] = []
-representatives (row ∷ rows) (code ∷ key) = representative row code ∷ representatives rows key
 
 -- a composition has no zeros
 without_zeros-composition : (code : List ℕ) → IsComposition code → without_zeros code ≡ code
@@ -32,9 +23,15 @@ without_zeros-composition [] h = refl
 without_zeros-composition (zero ∷ code) h = absurd (omega (arith, h.0))
 without_zeros-composition (suc n ∷ code) h = ap (λ p. suc n ∷ p) (without_zeros-composition code h.1)
 
--- what each row owes: at the representative of an index its element alone occurs
-pub occurs-representative : (row : Row) (code index : List ℕ) → IsIndex row index → occurs row code (representative row index) ≡ same_list index code
-occurs-representative qsym_m code index h = ap (λ p. same_list p code) (without_zeros-composition index h)
+-- of a composition the representative is the composition itself, as exponents
+pub monomial_class : IsClassBasis qsym_m
+monomial_class index h = (index, λ code h'. ap (λ p. same_list p code) (without_zeros-composition index h))
+
+-- the representatives of the codes of a key
+abbrev pub representatives : (rows : List Row) → AreClassBases rows → (key : Codes) → AreIndices rows key → Codes
+representatives [] classes key h = []
+representatives (row ∷ rows) classes [] h = []
+representatives (row ∷ rows) classes (code ∷ key) h = (classes.0 code h.0).0 ∷ representatives rows classes.1 key h.1
 
 -- two tests that both hold count as their product
 one_if-and : (p q : Bool) → one_if (p && q) ≡ one_if p * one_if q
@@ -78,21 +75,21 @@ one_if-same_list (x ∷ c) (y ∷ d) =
     ∙ sym (counts-then (nat_cmp x y) (slice_cmp nat_cmp c d))
 
 -- at the representatives of a key this key alone occurs
-pub occurrence-representatives : (rows : List Row) (k key : Codes) → AreIndices rows k → AreIndices rows key
-    → occurrence rows k (representatives rows key) ≡ counts (key_cmp k key)
-occurrence-representatives [] [] [] h h' = refl
-occurrence-representatives [] (c ∷ k) key h h' = absurd h
-occurrence-representatives [] [] (d ∷ key) h h' = absurd h'
-occurrence-representatives (row ∷ rows) [] key h h' = absurd h
-occurrence-representatives (row ∷ rows) (c ∷ k) [] h h' = absurd h'
-occurrence-representatives (row ∷ rows) (c ∷ k) (d ∷ key) h h' =
-    let first : one_if (occurs row c (representative row d)) ≡ counts (slice_cmp nat_cmp c d) = ap one_if (occurs-representative row c d h'.0) ∙ one_if-same_list c d in
-    ap (λ n. n * occurrence rows k (representatives rows key)) first
-    ∙ ap (λ n. counts (slice_cmp nat_cmp c d) * n) (occurrence-representatives rows k key h.1 h'.1)
+pub occurrence-representatives : (rows : List Row) (classes : AreClassBases rows) (k key : Codes) → AreIndices rows k → (h : AreIndices rows key)
+    → occurrence rows k (representatives rows classes key h) ≡ counts (key_cmp k key)
+occurrence-representatives [] classes [] [] h h' = refl
+occurrence-representatives [] classes (c ∷ k) key h h' = absurd h
+occurrence-representatives [] classes [] (d ∷ key) h h' = absurd h'
+occurrence-representatives (row ∷ rows) classes [] key h h' = absurd h
+occurrence-representatives (row ∷ rows) classes (c ∷ k) [] h h' = absurd h'
+occurrence-representatives (row ∷ rows) classes (c ∷ k) (d ∷ key) h h' =
+    let first : one_if (occurs row c (classes.0 d h'.0).0) ≡ counts (slice_cmp nat_cmp c d) = ap one_if ((classes.0 d h'.0).1 c h.0) ∙ one_if-same_list c d in
+    ap (λ n. n * occurrence rows k (representatives rows classes.1 key h'.1)) first
+    ∙ ap (λ n. counts (slice_cmp nat_cmp c d) * n) (occurrence-representatives rows classes.1 k key h.1 h'.1)
     ∙ sym (counts-then (slice_cmp nat_cmp c d) (key_cmp k key))
 
 -- there is one representative for each row
-pub length-representatives : (rows : List Row) (key : Codes) → AreIndices rows key → length (representatives rows key) ≡ length rows
-length-representatives [] key h = refl
-length-representatives (row ∷ rows) [] h = absurd h
-length-representatives (row ∷ rows) (code ∷ key) h = omega (arith, length-representatives rows key h.1)
+pub length-representatives : (rows : List Row) (classes : AreClassBases rows) (key : Codes) (h : AreIndices rows key) → length (representatives rows classes key h) ≡ length rows
+length-representatives [] classes key h = refl
+length-representatives (row ∷ rows) classes [] h = absurd h
+length-representatives (row ∷ rows) classes (code ∷ key) h = omega (arith, length-representatives rows classes.1 key h.1)

@@ -3,10 +3,13 @@ pub mod Coefficients
 pub mod Edits
 pub mod Gathering
 pub mod Linearity
+pub mod NondecreasingWords
 pub mod Numerals
 pub mod OnePoint
+pub mod Packing
 pub mod Pattern
 pub mod Place
+pub mod RisingMaps
 pub mod Sums
 pub mod Uniqueness
 pub mod Weights

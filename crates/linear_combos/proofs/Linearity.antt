@@ -1,13 +1,13 @@
 -- Readings are linear in their terms, and their products are bilinear.
-use Rattle.std.proofs.Common.{◌≡◌, List, [], ◌∷◌, map, refl, sym, ◌∙◌, ap, arith}
-use Rattle.std.proofs.Math.IntN.{ℤ, pos, ◌+ℤ◌, ◌*ℤ◌, *ℤ_comm, *ℤ-zero}
+use Rattle.std.proofs.Common.{◌≡◌, ℕ, zero, suc, List, [], ◌∷◌, map, refl, sym, ◌∙◌, ap, arith}
+use Rattle.std.proofs.Math.IntN.{ℤ, pos, ◌+ℤ◌, ◌*ℤ◌, neg_ℤ, *ℤ_comm, *ℤ-zero}
 use Rattle.std.proofs.lemmas.Int.{ints}
-use Rattle.linear_combos.specs.Lists.{int_sum}
+use Rattle.linear_combos.specs.Lists.{int_sum, with_sign}
 use Rattle.linear_combos.specs.Rows.{Row, kind_of}
-use Rattle.linear_combos.specs.Readings.{Terms, leaf, occurrence, numerator, of_key, all_cuts}
+use Rattle.linear_combos.specs.Readings.{Terms, leaf, occurrence, numerator, of_key, all_cuts, reads_at}
 use Rattle.linear_combos.specs.Combos.{weighed}
-use Rattle.linear_combos.specs.Laws.{LinearityLaw, GatheringLaw, BilinearityLaw}
-use Rattle.hopf_num.proofs.Ring.{*ℤ-+ℤ, *ℤ_assoc}
+use Rattle.linear_combos.specs.Laws.{LinearityLaw, OperationLaw, GatheringLaw, BilinearityLaw}
+use Rattle.hopf_num.proofs.Ring.{*ℤ-+ℤ, *ℤ-neg_ℤ, *ℤ_assoc}
 use Rattle.linear_combos.proofs.Coefficients.{Codes}
 
 -- a key reads as its occurrence
@@ -63,6 +63,22 @@ int_sum-times f g ts us xs =
     (λ i. int_sum (map (λ x. weighed-times (f x) (g x) ts us i) xs))
     ∙ int_sum-weighed (λ x k. weighed (λ l. f x k *ℤ g x l) us) ts xs
     ∙ (λ i. weighed (λ k. int_sum-weighed (λ x l. f x k *ℤ g x l) us xs i) ts)
+
+-- a sign before a weighed sum
+weighed-neg : (g : Codes → ℤ) (ts : Terms) → neg_ℤ (weighed g ts) ≡ weighed (λ k. neg_ℤ (g k)) ts
+weighed-neg g [] = refl
+weighed-neg g (t ∷ ts) = omega (arith, ints, *ℤ-neg_ℤ t.0 (g t.1), weighed-neg g ts)
+
+weighed-with_sign : (n : ℕ) (g : Codes → ℤ) (ts : Terms) → with_sign n (weighed g ts) ≡ weighed (λ k. with_sign n (g k)) ts
+weighed-with_sign zero g ts = refl
+weighed-with_sign (suc n) g ts = ap neg_ℤ (weighed-with_sign n g ts) ∙ weighed-neg (λ k. with_sign n (g k)) ts
+
+-- an operation reads its operand at fixed points, with signs
+pub operates_linearly : OperationLaw
+operates_linearly operation n rows den ts ps =
+    (λ i. int_sum (map (λ (r : ℕ × Codes). weighed-with_sign r.0 (λ k. pos (occurrence rows k r.1)) ts i) (reads_at n operation (map kind_of rows) ps)))
+    ∙ int_sum-weighed (λ (r : ℕ × Codes) k. with_sign r.0 (pos (occurrence rows k r.1))) ts (reads_at n operation (map kind_of rows) ps)
+    ∙ (λ i. weighed (λ k. int_sum (map (λ (r : ℕ × Codes). with_sign r.0 (sym (numerator-of_key rows k r.1) i)) (reads_at n operation (map kind_of rows) ps))) ts)
 
 -- a product is the sum of the products of the terms
 pub reads_bilinearly : BilinearityLaw

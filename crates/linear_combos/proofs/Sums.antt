@@ -1,7 +1,7 @@
 -- Sums of a function over a list, and over the cuts of a number.
 use Rattle.std.proofs.Common.{◌≡◌, ℕ, zero, suc, ◌+◌, ◌*◌, List, [], ◌∷◌, ◌++◌, map, refl, ◌∙◌, ap, arith, zero-add}
 use Rattle.std.specs.List.{flat_map}
-use Rattle.linear_combos.specs.Points.{number_cuts}
+use Rattle.linear_combos.specs.Exponents.{number_cuts}
 
 abbrev pub sums : {X : Type 0} → (X → ℕ) → List X → ℕ
 sums f [] = 0

@@ -1,8 +1,9 @@
 -- Laws of combinations and their readings. Public functions with empty bodies ensure them (`src/laws.rt`).
 use Rattle.std.specs.Prelude.{◌≡◌, ℕ, ℤ, ◌+ℤ◌, ◌*ℤ◌, List, length, map}
-use Rattle.linear_combos.specs.Rows.{Row, kind_of, patterns}
+use Rattle.linear_combos.specs.Rows.{Row, qsym_m, kind_of, patterns}
+use Rattle.linear_combos.specs.ClassBases.{IsClassBasis, AreClassBases}
 use Rattle.linear_combos.specs.Indices.{AreIndices}
-use Rattle.linear_combos.specs.Readings.{Terms, leaf, product, numerator, of_key}
+use Rattle.linear_combos.specs.Readings.{Terms, Operation, leaf, applied, product, numerator, of_key}
 use Rattle.linear_combos.specs.Combos.{AreTerms, AddsTerm, HasKey, weighed}
 
 -- the reading of a combination at points is that at their patterns
@@ -14,6 +15,11 @@ PatternLaw = (rows : List Row) (den : ℕ) (ts : Terms) (ps : List (List ℕ)) �
 abbrev pub LinearityLaw : Type 0
 LinearityLaw = (rows : List Row) (den : ℕ) (ts : Terms) (ps : List (List ℕ)) →
     numerator (leaf rows den ts) ps ≡ weighed (λ key. numerator (of_key rows key) ps) ts
+
+-- an operation on a component is linear in the terms of a combination
+abbrev pub OperationLaw : Type 0
+OperationLaw = (operation : Operation) (n : ℕ) (rows : List Row) (den : ℕ) (ts : Terms) (ps : List (List ℕ)) →
+    numerator (applied operation n (leaf rows den ts)) ps ≡ weighed (λ key. numerator (applied operation n (of_key rows key)) ps) ts
 
 -- terms to which a numerator times a key was added, like terms gathered, read as before and that numerator times the reading of the key
 abbrev pub GatheringLaw : Type 0
@@ -27,9 +33,13 @@ BilinearityLaw = (rows : List Row) (d e : ℕ) (ts us : Terms) (ps : List (List 
     numerator (product (leaf rows d ts) (leaf rows e us)) ps
     ≡ weighed (λ key. weighed (λ key'. numerator (product (of_key rows key) (of_key rows key')) ps) us) ts
 
+-- the monomial quasi-symmetric functions are a class basis
+abbrev pub ClassLaw : Type 0
+ClassLaw = IsClassBasis qsym_m
+
 -- over class bases, canonical terms that read alike at all tuples of points are the same
 abbrev pub UniquenessLaw : Type 0
-UniquenessLaw = (rows : List Row) (ts us : Terms) → AreTerms (length rows) ts → AreTerms (length rows) us →
+UniquenessLaw = (rows : List Row) (ts us : Terms) → AreClassBases rows → AreTerms (length rows) ts → AreTerms (length rows) us →
     ((key : List (List ℕ)) → HasKey ts key → AreIndices rows key) →
     ((key : List (List ℕ)) → HasKey us key → AreIndices rows key) →
     ((ps : List (List ℕ)) → length ps ≡ length rows → numerator (leaf rows 1 ts) ps ≡ numerator (leaf rows 1 us) ps) →

@@ -1,12 +1,13 @@
 //! Laws of combinations and their readings. A function here computes nothing: callers cite its
 //! clause.
-ghost use Rattle.linear_combos.specs.Laws.{PatternLaw, LinearityLaw, GatheringLaw, BilinearityLaw, UniquenessLaw};
+ghost use Rattle.linear_combos.specs.Laws.{PatternLaw, LinearityLaw, OperationLaw, GatheringLaw, BilinearityLaw, ClassLaw, UniquenessLaw};
 
 /// The reading of a combination is determined by the pattern of its points.
 ///
 /// The pattern of exponents is what is left once zeros are left out: the coefficient of a monomial
 /// in a quasi-symmetric function depends on its exponents in order, and not on its letters (Gessel
-/// 1984). Nothing is computed: callers cite the clause.
+/// 1984). The pattern of a word is its packed word: descents, standardisation and the decreasing
+/// tree depend on the order of its letters alone. Nothing is computed: callers cite the clause.
 pub fn pattern_law()
     ensures { PatternLaw }
 {}
@@ -17,6 +18,14 @@ pub fn pattern_law()
 /// Nothing is computed: callers cite the clause.
 pub fn linearity_law()
     ensures { LinearityLaw }
+{}
+
+/// Coproduct, antipode, counit, product of two components and commuting image are linear: what each
+/// makes of a combination reads as the sum of the numerators, each times what it makes of the key.
+///
+/// Nothing is computed: callers cite the clause.
+pub fn operation_law()
+    ensures { OperationLaw }
 {}
 
 /// Gathering like terms keeps readings: once a numerator times a key was added to terms, they read
@@ -33,6 +42,14 @@ pub fn gathering_law()
 /// Nothing is computed: callers cite the clause.
 pub fn bilinearity_law()
     ensures { BilinearityLaw }
+{}
+
+/// The monomial quasi-symmetric functions are a class basis: each composition has a point, itself as
+/// exponents, at which its function occurs and no other one does (Gessel 1984).
+///
+/// Nothing is computed: callers cite the clause.
+pub fn class_law()
+    ensures { ClassLaw }
 {}
 
 /// Terms in canonical form are unique: over one list of class bases, canonical terms that read alike

@@ -18,4 +18,7 @@ pub use code::Code;
 pub use codes::Codes;
 pub use combo::{Combo, ComboFault};
 pub use key::Key;
-pub use laws::{bilinearity_law, gathering_law, linearity_law, pattern_law, uniqueness_law};
+pub use laws::{
+    bilinearity_law, class_law, gathering_law, linearity_law, operation_law, pattern_law,
+    uniqueness_law,
+};
