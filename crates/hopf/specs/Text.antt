@@ -4,9 +4,10 @@ use Rattle.std.specs.Fmt.{decimal}
 use Rattle.linear_combos.specs.Readings.{Terms}
 use Rattle.linear_combos.specs.Rows.{Row, qsym_m}
 
--- the name of a basis
+-- the name of a basis that is built; the others have none yet
 abbrev pub name_of : Row → List ℕ
 name_of qsym_m = codes "QSym.M"
+name_of _ = []
 
 -- the numbers in decimal, with commas between
 abbrev pub comma_separated : List ℕ → List ℕ
@@ -14,9 +15,10 @@ comma_separated [] = []
 comma_separated (a ∷ []) = decimal a
 comma_separated (a ∷ b ∷ rest) = decimal a ++ codes "," ++ comma_separated (b ∷ rest)
 
--- the spelling of an index: for a composition its parts
+-- the spelling of an index: for a composition its parts; those of bases that are not built have none yet
 abbrev pub spelled : Row → List ℕ → List ℕ
 spelled qsym_m code = codes "[" ++ comma_separated code ++ codes "]"
+spelled _ code = []
 
 -- the basis elements of a key, with ` # ` between
 abbrev pub key_text : List Row → List (List ℕ) → List ℕ
