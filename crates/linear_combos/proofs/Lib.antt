@@ -1,5 +1,6 @@
 pub mod ClassBases
 pub mod Coefficients
+pub mod DescentCompositions
 pub mod Edits
 pub mod Gathering
 pub mod Linearity

@@ -1,10 +1,16 @@
 -- Laws of combinations and their readings. Public functions with empty bodies ensure them (`src/laws.rt`).
 use Rattle.std.specs.Prelude.{◌≡◌, ℕ, ℤ, ◌+ℤ◌, ◌*ℤ◌, List, length, map}
+use Rattle.std.specs.List.{sum}
+use Rattle.linear_combos.specs.Descents.{descents, descent_composition, descent_set}
 use Rattle.linear_combos.specs.Rows.{Row, qsym_m, kind_of, patterns}
 use Rattle.linear_combos.specs.ClassBases.{IsClassBasis, AreClassBases}
 use Rattle.linear_combos.specs.Indices.{AreIndices}
 use Rattle.linear_combos.specs.Readings.{Terms, Operation, leaf, applied, product, numerator, of_key}
 use Rattle.linear_combos.specs.Combos.{AreTerms, AddsTerm, HasKey, weighed}
+
+-- the descent composition of a word is the composition of its length whose proper partial sums are the places of its descents
+abbrev pub DescentLaw : Type 0
+DescentLaw = (w : List ℕ) → (sum (descent_composition w) ≡ length w) × (descent_set (descent_composition w) ≡ descents w)
 
 -- the reading of a combination at points is that at their patterns
 abbrev pub PatternLaw : Type 0

@@ -1,6 +1,14 @@
 //! Laws of combinations and their readings. A function here computes nothing: callers cite its
 //! clause.
-ghost use Rattle.linear_combos.specs.Laws.{PatternLaw, LinearityLaw, OperationLaw, GatheringLaw, BilinearityLaw, ClassLaw, UniquenessLaw};
+ghost use Rattle.linear_combos.specs.Laws.{DescentLaw, PatternLaw, LinearityLaw, OperationLaw, GatheringLaw, BilinearityLaw, ClassLaw, UniquenessLaw};
+
+/// The descent composition of a word is the composition of its length whose proper partial sums are
+/// the places of its descents (Gelfand, Krob, Lascoux, Leclerc, Retakh, Thibon 1995).
+///
+/// Nothing is computed: callers cite the clause.
+pub fn descent_law()
+    ensures { DescentLaw }
+{}
 
 /// The reading of a combination is determined by the pattern of its points.
 ///

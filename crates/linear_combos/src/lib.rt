@@ -19,6 +19,6 @@ pub use codes::Codes;
 pub use combo::{Combo, ComboFault};
 pub use key::Key;
 pub use laws::{
-    bilinearity_law, class_law, gathering_law, linearity_law, operation_law, pattern_law,
-    uniqueness_law,
+    bilinearity_law, class_law, descent_law, gathering_law, linearity_law, operation_law,
+    pattern_law, uniqueness_law,
 };
