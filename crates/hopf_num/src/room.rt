@@ -7,7 +7,8 @@ use crate::lcm;
 
 /// What a refused call needed room for: its numbers, with which the stated inequality fails.
 ///
-/// Norms and denominators are below 2^127, shifts are at most 120.
+/// Norms and denominators of what is kept are below 2^127; one that a caller gave may be 2^127, the
+/// absolute value of the least `i128`. Shifts are at most 120.
 #[derive(Clone, Copy, Debug, PartialEq, Eq)]
 pub enum Need {
     /// `left * right < 2^127`, for the product of two denominators.
@@ -44,7 +45,7 @@ pub enum Need {
 impl Need {
     /// Whether what is needed has room: `TooLarge` with the need exactly where it has none.
     ///
-    /// Denominators are at least 1, and shifts at most 120.
+    /// The denominators of a `CommonDenominator` are at least 1, and shifts at most 120.
     pub fn test(self) -> Result<(), NumFault>
         requires { IsNeed self }
         ensures { TestsRoom (self ∷ []) result }

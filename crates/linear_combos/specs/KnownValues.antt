@@ -26,8 +26,8 @@ pub descent_set-1211 : descent_set (1 ∷ 2 ∷ 1 ∷ 1 ∷ []) ≡ 1 ∷ 3 ∷ 
 descent_set-1211 = refl
 pub word_of_composition-21 : word_of_composition (2 ∷ 1 ∷ []) ≡ 2 ∷ 2 ∷ 1 ∷ []
 word_of_composition-21 = refl
-pub finer-121-22 : is_finer (1 ∷ 2 ∷ 1 ∷ []) (3 ∷ 1 ∷ []) ≡ true
-finer-121-22 = refl
+pub finer-121-31 : is_finer (1 ∷ 2 ∷ 1 ∷ []) (3 ∷ 1 ∷ []) ≡ true
+finer-121-31 = refl
 pub not_finer-31-121 : is_finer (3 ∷ 1 ∷ []) (1 ∷ 2 ∷ 1 ∷ []) ≡ false
 not_finer-31-121 = refl
 pub words_of-21 : words_of (2 ∷ 1 ∷ []) ≡ (1 ∷ 1 ∷ 2 ∷ []) ∷ (1 ∷ 2 ∷ 1 ∷ []) ∷ (2 ∷ 1 ∷ 1 ∷ []) ∷ []
