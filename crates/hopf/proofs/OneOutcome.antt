@@ -29,9 +29,9 @@ value_from_answer n r c h = record {
 }
 
 -- values that read alike are equal
-pub value_once : (r : Reading) (c d : Combination) → 1 ≤ denominator r → IsValueOf r c → IsValueOf r d → c.terms ≡ d.terms
+pub value_once : (r : Reading) (c d : Combination) → 1 ≤ denominator r → IsValueOf r c → IsValueOf r d → c ≡ d
 value_once r c d positive h k =
-    unique_reading (qsym_m ∷ []) r c d (monomial_class, tt) h.value.canonical k.value.canonical h.value.rank k.value.rank h.value.whole k.value.whole positive h.value.indices k.value.indices
+    unique_reading (qsym_m ∷ []) r c d (monomial_class, tt) h.value.canonical k.value.canonical h.value.rank k.value.rank positive h.value.indices k.value.indices
     (at_one_point (AgreeAt (leaf (qsym_m ∷ []) c.den c.terms) r) h.reads)
     (at_one_point (AgreeAt (leaf (qsym_m ∷ []) d.den d.terms) r) k.reads)
 
@@ -42,7 +42,7 @@ same_print text l r l' r' c d p q h k =
     let (left, right) = product_once text l r l' r' p q in
     let k' : IsValueOf (product (element qsym_m l) (element qsym_m r)) d =
     subst (λ (x : List ℕ). IsValueOf (product (element qsym_m x) (element qsym_m r)) d) (sym left) (subst (λ (x : List ℕ). IsValueOf (product (element qsym_m l') (element qsym_m x)) d) (sym right) k) in
-    value_once (product (element qsym_m l) (element qsym_m r)) c d (omega arith) h k'
+    ap (λ v. v.terms) (value_once (product (element qsym_m l) (element qsym_m r)) c d (omega arith) h k')
 
 same_sizes : (text l r l' r' : List ℕ) → IsProduct text l r → IsProduct text l' r' → sum l + sum r ≡ sum l' + sum r'
 same_sizes text l r l' r' p q = let (left, right) = product_once text l r l' r' p q in ap (λ x. sum x + sum r) left ∙ ap (λ x. sum l' + sum x) right

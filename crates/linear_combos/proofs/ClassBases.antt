@@ -12,7 +12,7 @@ use Rattle.linear_combos.specs.Lists.{same_list, one_if}
 use Rattle.linear_combos.specs.Exponents.{without_zeros}
 use Rattle.linear_combos.specs.Rows.{Row, qsym_m, occurs}
 use Rattle.linear_combos.specs.Indices.{IsComposition, AreIndices}
-use Rattle.linear_combos.specs.ClassBases.{IsClassBasis, AreClassBases}
+use Rattle.linear_combos.specs.ClassBases.{IsClassBasis, AreClassBases, representatives}
 use Rattle.linear_combos.specs.Readings.{occurrence}
 use Rattle.linear_combos.specs.Combos.{key_cmp}
 use Rattle.linear_combos.proofs.Coefficients.{Codes, counts}
@@ -26,12 +26,6 @@ without_zeros-composition (suc n ∷ code) h = ap (λ p. suc n ∷ p) (without_z
 -- of a composition the representative is the composition itself, as exponents
 pub monomial_class : IsClassBasis qsym_m
 monomial_class index h = (index, λ code h'. ap (λ p. same_list p code) (without_zeros-composition index h))
-
--- the representatives of the codes of a key
-abbrev pub representatives : (rows : List Row) → AreClassBases rows → (key : Codes) → AreIndices rows key → Codes
-representatives [] classes key h = []
-representatives (row ∷ rows) classes [] h = []
-representatives (row ∷ rows) classes (code ∷ key) h = (classes.0 code h.0).0 ∷ representatives rows classes.1 key h.1
 
 -- two tests that both hold count as their product
 one_if-and : (p q : Bool) → one_if (p && q) ≡ one_if p * one_if q

@@ -36,8 +36,9 @@ rank_in_rises (z ∷ w) x y m h =
     at_last : (b : Bool) → b ≡ false → z ≡ y → one_if (nat_le z x && not b) + 1 ≤ one_if (nat_le z y && not b)
     at_last true e same = absurd (cc)
     at_last false e same = grind (arith, nat_tests)
+
     by_rest : (b : Bool) → is_among y w ≡ b → (is_among y w ≡ true → rank_in w x < rank_in w y) → rank_in w x ≤ rank_in w y
-      → rank_in (z ∷ w) x < rank_in (z ∷ w) y
+        → rank_in (z ∷ w) x < rank_in (z ∷ w) y
     by_rest true e ih rest = omega (arith, ih e, counted_le (is_among z w) z x y (omega arith))
     by_rest false e ih rest =
         let same : z ≡ y = eqb-true z y (or_false (nat_eq z y) (is_among y w) e m) in

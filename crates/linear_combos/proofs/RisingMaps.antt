@@ -115,7 +115,7 @@ module _ (P : ℕ → Type 0) (f : ℕ → ℕ) (rises : Rises P f) where
       rw (is_among-map w m h.1 hm, nat_eq-rises x m h.0 hm, before_last-map m w hm h.1) (by_cases (is_among m w) (nat_eq x m))
     where
       by_cases : (a b : Bool) → (if a then f x ∷ map f (before_last m w) else (if b then [] else f x ∷ map f (before_last m w)))
-        ≡ map f (if a then x ∷ before_last m w else (if b then [] else x ∷ before_last m w))
+          ≡ map f (if a then x ∷ before_last m w else (if b then [] else x ∷ before_last m w))
       by_cases true b = refl
       by_cases false true = refl
       by_cases false false = refl
@@ -126,7 +126,7 @@ module _ (P : ℕ → Type 0) (f : ℕ → ℕ) (rises : Rises P f) where
       rw (is_among-map w m h.1 hm, nat_eq-rises x m h.0 hm, after_last-map m w hm h.1) (by_cases (is_among m w) (nat_eq x m))
     where
       by_cases : (a b : Bool) → (if a then map f (after_last m w) else (if b then map f w else map f (after_last m w)))
-        ≡ map f (if a then after_last m w else (if b then w else after_last m w))
+          ≡ map f (if a then after_last m w else (if b then w else after_last m w))
       by_cases true b = refl
       by_cases false true = refl
       by_cases false false = refl

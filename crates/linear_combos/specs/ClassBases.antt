@@ -2,7 +2,7 @@
 use Rattle.std.specs.Prelude.{◌≡◌, ℕ, List, [], ◌∷◌}
 use Rattle.linear_combos.specs.Lists.{same_list}
 use Rattle.linear_combos.specs.Rows.{Row, occurs}
-use Rattle.linear_combos.specs.Indices.{IsIndex}
+use Rattle.linear_combos.specs.Indices.{IsIndex, AreIndices}
 
 -- at the point the element of the index occurs, and no other one does
 abbrev pub IsRepresentative : Row → List ℕ → List ℕ → Type 0
@@ -16,3 +16,9 @@ IsClassBasis row = (index : List ℕ) → IsIndex row index → (p : List ℕ) �
 abbrev pub AreClassBases : List Row → Type 0
 AreClassBases [] = Unit {0}
 AreClassBases (row ∷ rows) = IsClassBasis row × AreClassBases rows
+
+-- the representatives of the codes of a key
+abbrev pub representatives : (rows : List Row) → AreClassBases rows → (key : List (List ℕ)) → AreIndices rows key → List (List ℕ)
+representatives [] classes key h = []
+representatives (row ∷ rows) classes [] h = []
+representatives (row ∷ rows) classes (code ∷ key) h = (classes.0 code h.0).0 ∷ representatives rows classes.1 key h.1

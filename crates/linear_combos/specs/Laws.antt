@@ -3,10 +3,10 @@ use Rattle.std.specs.Prelude.{◌≡◌, ℕ, ℤ, ◌+ℤ◌, ◌*ℤ◌, List,
 use Rattle.std.specs.List.{sum}
 use Rattle.linear_combos.specs.Descents.{descents, descent_composition, descent_set}
 use Rattle.linear_combos.specs.Rows.{Row, qsym_m, kind_of, patterns}
-use Rattle.linear_combos.specs.ClassBases.{IsClassBasis, AreClassBases}
+use Rattle.linear_combos.specs.ClassBases.{IsClassBasis, AreClassBases, representatives}
 use Rattle.linear_combos.specs.Indices.{AreIndices}
-use Rattle.linear_combos.specs.Readings.{Terms, Operation, leaf, applied, product, numerator, of_key}
-use Rattle.linear_combos.specs.Combos.{AreTerms, AddsTerm, HasKey, weighed}
+use Rattle.linear_combos.specs.Readings.{Terms, Operation, leaf, applied, product, numerator, of_key, AgreeAt}
+use Rattle.linear_combos.specs.Combos.{Combination, IsCanonical, AddsTerm, HasKey, weighed}
 
 -- the descent composition of a word is the composition of its length whose proper partial sums are the places of its descents
 abbrev pub DescentLaw : Type 0
@@ -43,10 +43,13 @@ BilinearityLaw = (rows : List Row) (d e : ℕ) (ts us : Terms) (ps : List (List 
 abbrev pub ClassLaw : Type 0
 ClassLaw = IsClassBasis qsym_m
 
--- over class bases, canonical terms that read alike at all tuples of points are the same
+-- canonical combinations over class bases that agree at all tuples of representatives are the same
 abbrev pub UniquenessLaw : Type 0
-UniquenessLaw = (rows : List Row) (ts us : Terms) → AreClassBases rows → AreTerms (length rows) ts → AreTerms (length rows) us →
-    ((key : List (List ℕ)) → HasKey ts key → AreIndices rows key) →
-    ((key : List (List ℕ)) → HasKey us key → AreIndices rows key) →
-    ((ps : List (List ℕ)) → length ps ≡ length rows → numerator (leaf rows 1 ts) ps ≡ numerator (leaf rows 1 us) ps) →
-    ts ≡ us
+UniquenessLaw = (rows : List Row) (classes : AreClassBases rows) (c d : Combination) →
+    IsCanonical c.rank c.den c.terms → IsCanonical d.rank d.den d.terms →
+    c.rank ≡ length rows → d.rank ≡ length rows →
+    ((key : List (List ℕ)) → HasKey c.terms key → AreIndices rows key) →
+    ((key : List (List ℕ)) → HasKey d.terms key → AreIndices rows key) →
+    ((key : List (List ℕ)) (h : AreIndices rows key) →
+    AgreeAt (leaf rows c.den c.terms) (leaf rows d.den d.terms) (representatives rows classes key h)) →
+    c ≡ d

@@ -60,8 +60,8 @@ pub fn class_law()
     ensures { ClassLaw }
 {}
 
-/// Terms in canonical form are unique: over one list of class bases, canonical terms that read alike
-/// at all tuples of points are equal.
+/// Combinations in canonical form are unique: over one list of class bases, two of them that agree
+/// at all tuples of representatives are equal, denominators and all.
 ///
 /// For quasi-symmetric functions it is that the monomial ones are linearly independent (Gessel
 /// 1984). Nothing is computed: callers cite the clause.
