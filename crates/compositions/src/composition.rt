@@ -1,5 +1,5 @@
 //! Compositions.
-ghost use Rattle.std.specs.Prelude.{◌≡◌, ◌≤◌, List, ℕ, length, sum, MatchOption};
+ghost use Rattle.std.specs.Prelude.{◌≡◌, ◌≤◌, List, ℕ, sum, MatchOption};
 ghost use Rattle.compositions.specs.Sizes.{IsSmallComposition};
 
 use linear_combos::Code;
@@ -27,18 +27,6 @@ impl Model for Composition {
     ghost invariant = { λ c. IsSmallComposition c.code };
 }
 
-// The sum of the letters of a code.
-fn total(letters: &[u8]) -> u32
-    requires { length letters.now ≤ 15 }
-    ensures { result ≡ sum letters.now }
-{
-    let mut total = 0;
-    for letter in letters {
-        total += u32::from(*letter);
-    }
-    total
-}
-
 impl Composition {
     /// The composition of these parts, or `None` exactly where one of them is 0 or their sum is more
     /// than 12.
@@ -46,7 +34,7 @@ impl Composition {
         ensures { MatchOption result (IsSmallComposition parts.now → ⊥) (λ c. (c ≡ parts.now) × IsSmallComposition parts.now) }
     {
         let code = Code::new(alloc, parts)?;
-        if total(parts) > MOST {
+        if code.sum() > MOST {
             return None;
         }
         Some(Composition { code })
@@ -65,6 +53,6 @@ impl Composition {
         ensures value { result ≡ sum self.now }
         ensures small { IsSmallComposition self.now }
     {
-        total(self.code.as_slice())
+        self.code.sum()
     }
 }

@@ -18,13 +18,13 @@ use Rattle.linear_combos.specs.Combos.{key_cmp}
 use Rattle.linear_combos.proofs.Coefficients.{Codes, counts}
 
 -- a composition has no zeros
-without_zeros-composition : (code : List ℕ) → IsComposition code → without_zeros code ≡ code
+pub without_zeros-composition : (code : List ℕ) → IsComposition code → without_zeros code ≡ code
 without_zeros-composition [] h = refl
 without_zeros-composition (zero ∷ code) h = absurd (omega (arith, h.0))
 without_zeros-composition (suc n ∷ code) h = ap (λ p. suc n ∷ p) (without_zeros-composition code h.1)
 
 -- of a composition the representative is the composition itself, as exponents
-pub monomial_class : IsClassBasis qsym_m
+abbrev pub monomial_class : IsClassBasis qsym_m
 monomial_class index h = (index, λ code h'. ap (λ p. same_list p code) (without_zeros-composition index h))
 
 -- two tests that both hold count as their product

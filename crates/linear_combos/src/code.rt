@@ -1,5 +1,5 @@
 //! Codes: the lists of letters that stand for indices of bases.
-ghost use Rattle.std.specs.Prelude.{◌≡◌, ◌<◌, List, ℕ, [], ◌++◌, length, MatchOption, slice_index, refl, nat_eq};
+ghost use Rattle.std.specs.Prelude.{◌≡◌, ◌<◌, ◌≤◌, List, ℕ, [], ◌++◌, length, MatchOption, slice_index, refl, nat_eq, sum};
 ghost use Rattle.std.specs.Cmp.{on_equiv, on_total, on_po, on_per, partial_equiv_from_equiv};
 ghost use Rattle.std.specs.Cmp.Lexicographic.{pointwise, slice_cmp};
 ghost use Rattle.linear_combos.specs.Codes.{IsCode, all_letters};
@@ -38,6 +38,18 @@ fn are_letters(letters: &[u8]) -> bool
     ensures { result ≡ all_letters letters.now }
 {
     letters.iter().all(|letter| 1 <= *letter && *letter <= 15)
+}
+
+// The sum of the letters of a code.
+fn total(letters: &[u8]) -> u32
+    requires { length letters.now ≤ 15 }
+    ensures { result ≡ sum letters.now }
+{
+    let mut total = 0;
+    for letter in letters {
+        total += u32::from(*letter);
+    }
+    total
 }
 
 impl Code {
@@ -83,6 +95,14 @@ impl Code {
         ensures { result.now ≡ self.now }
     {
         self.letters.as_slice()
+    }
+
+    /// The sum of the letters, at most 225.
+    pub fn sum(&self) -> u32
+        ensures value { result ≡ sum self.now }
+        ensures is_code { IsCode self.now }
+    {
+        total(self.letters.as_slice())
     }
 
     /// The same code.

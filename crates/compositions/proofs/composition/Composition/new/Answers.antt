@@ -1,4 +1,4 @@
-use Rattle.std.proofs.Common.{◌≤◌, arith}
+use Rattle.std.proofs.Common.{◌≤◌, subst, arith}
 use Rattle.std.specs.List.{sum}
 use Rattle.compositions.specs.Sizes.{IsSmallComposition}
 use Rattle.compositions.proofs.Parts.{code_from_composition, composition_from_letters}
@@ -10,10 +10,10 @@ returns-in_err-code c =
 
 pub invariant_of-result : goal.invariant_of-result
 invariant_of-result c =
-    let size : sum c.args.parts.now ≤ 12 = omega (arith, c.total.ensures) in
+    let size : sum c.args.parts.now ≤ 12 = subst (λ parts. sum parts ≤ 12) c.in_ok-code.ensures.0 (omega (arith, c.sum.ensures.value)) in
     rw c.in_ok-code.ensures.0 (record { positive = composition_from_letters _ c.in_ok-code.ensures.1.letters; small = size })
 
 pub returns : goal.returns
 returns c =
-    let size : sum c.args.parts.now ≤ 12 = omega (arith, c.total.ensures) in
+    let size : sum c.args.parts.now ≤ 12 = subst (λ parts. sum parts ≤ 12) c.in_ok-code.ensures.0 (omega (arith, c.sum.ensures.value)) in
     (c.in_ok-code.ensures.0, record { positive = composition_from_letters _ c.in_ok-code.ensures.1.letters; small = size })

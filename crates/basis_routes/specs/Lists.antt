@@ -1,0 +1,12 @@
+-- The bases of a value as a list.
+use Rattle.std.specs.Prelude.{List, [], ◌∷◌}
+use Rattle.hopf_laws.specs.declared.bases.BasisId.{BasisId}
+use Rattle.basis_routes.specs.declared.bases.Bases.{Bases}
+use Rattle.basis_routes.specs.declared.bases.Bases.TheVariants.{None, One, Two, Three}
+
+-- in the order of the components
+abbrev pub bases_of : Bases → List BasisId
+bases_of None = []
+bases_of (One a) = a ∷ []
+bases_of (Two a b) = a ∷ b ∷ []
+bases_of (Three a b c) = a ∷ b ∷ c ∷ []

@@ -1,0 +1,34 @@
+//! Why an operation on values is refused.
+
+use hopf_laws::AlgebraId;
+use hopf_num::Need;
+
+/// Why an operation on values has no answer.
+#[derive(Clone, Copy, Debug, PartialEq, Eq)]
+pub enum Refusal {
+    /// The ranks do not allow the operation.
+    Rank,
+    /// A component is not there.
+    Component,
+    /// The divisor is not a scalar.
+    NotScalar,
+    /// The divisor is 0.
+    ZeroDivisor,
+    /// Two components lie in algebras without a common one.
+    Mixed(AlgebraId, AlgebraId),
+    /// A degree is past the limit of the algebras.
+    Degree { degree: u32, limit: u32 },
+    /// A number would pass its room. The need tells the numbers.
+    TooLarge(Need),
+    /// Memory ran out.
+    Memory,
+}
+
+/// A component of a value.
+#[derive(Clone, Copy, Debug, PartialEq, Eq)]
+pub enum Place {
+    /// The only one.
+    Only,
+    /// The one with this number, counted from 1.
+    At(u32),
+}
