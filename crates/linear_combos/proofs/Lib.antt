@@ -1,12 +1,17 @@
 pub mod ClassBases
 pub mod Coefficients
 pub mod Edits
+pub mod Equality
 pub mod Gathering
 pub mod Linearity
+pub mod LowestCombos
+pub mod Merging
 pub mod Numerals
 pub mod OnePoint
 pub mod Pattern
 pub mod Place
+pub mod RoomOfCombos
 pub mod Sums
+pub mod SumsOfCombos
 pub mod Uniqueness
 pub mod Weights

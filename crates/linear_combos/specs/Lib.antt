@@ -7,6 +7,7 @@ pub mod Keys
 pub mod KeyOrder
 pub mod Laws
 pub mod Lists
+pub mod Merges
 pub mod Points
 pub mod Readings
 pub mod Rows
