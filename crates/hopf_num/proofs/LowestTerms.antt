@@ -27,7 +27,7 @@ int_div-times (negsuc n) g divides =
 pub gcd-positive : (n den g : ℕ) → 1 ≤ den → IsGcd n den g → 0 < g
 gcd-positive n den g positive is = pos_of_dvd_of_pos is.1 positive
 
-positive-quotient : (den g : ℕ) → 1 ≤ den → g ∣ den → 1 ≤ den / g
+pub positive-quotient : (den g : ℕ) → 1 ≤ den → g ∣ den → 1 ≤ den / g
 positive-quotient den g positive divides = some (den / g) refl
   where
     some : (q : ℕ) → den / g ≡ q → 1 ≤ den / g

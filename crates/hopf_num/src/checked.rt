@@ -21,16 +21,16 @@ pub(crate) fn sum_of_products<T: CheckedMul + CheckedAdd>(
     first.checked_add(&second)
 }
 
-// The product of two numbers whose product the type has.
-pub(crate) fn product<T: Num + Integral>(left: T, right: T) -> T
+/// The product of two numbers whose product the type has.
+pub fn product<T: Num + Integral>(left: T, right: T) -> T
     requires { T.fits (T.value left *ℤ T.value right) }
     ensures { T.value result ≡ T.value left *ℤ T.value right }
 {
     left * right
 }
 
-// The quotient by a positive number.
-pub(crate) fn quotient<T: Num + Integral>(num: T, divisor: T) -> T
+/// The quotient by a positive number, rounded towards 0.
+pub fn quotient<T: Num + Integral>(num: T, divisor: T) -> T
     requires num { T.fits (T.value num) }
     requires divisor { T.fits (T.value divisor) }
     requires positive { pos 0 <ℤ T.value divisor }

@@ -14,6 +14,7 @@ mod room;
 #[cfg(test)]
 mod tests;
 
+pub use checked::{product, quotient};
 pub use divisors::{gcd, lcm};
 pub use fraction::Fraction;
 pub use memory::OutOfMemory;

@@ -56,7 +56,7 @@ above_less key key' [] h a = tt
 above_less key key' (t ∷ ts) h a = (key_order.trans key key' t.1 h a.0, above_less key key' ts h a.1)
 
 -- a smaller key, seen from the other one
-less_turned : (a b : Codes) → key_cmp a b ≡ Less → key_cmp b a ≡ Greater
+pub less_turned : (a b : Codes) → key_cmp a b ≡ Less → key_cmp b a ≡ Greater
 less_turned a b h = key_order.antisymm b a ∙ ap ordering_reverse h
 
 -- a greater key, seen from the other one

@@ -2,8 +2,11 @@ pub mod ClassBases
 pub mod Coefficients
 pub mod DescentCompositions
 pub mod Edits
+pub mod Equality
 pub mod Gathering
 pub mod Linearity
+pub mod LowestCombos
+pub mod Merging
 pub mod NondecreasingWords
 pub mod Numerals
 pub mod OnePoint
@@ -11,6 +14,8 @@ pub mod Packing
 pub mod Pattern
 pub mod Place
 pub mod RisingMaps
+pub mod RoomOfCombos
 pub mod Sums
+pub mod SumsOfCombos
 pub mod Uniqueness
 pub mod Weights

@@ -6,6 +6,7 @@ use Rattle.std.specs.Ordering.{nat_cmp}
 use Rattle.std.specs.declared.cmp.Ordering.{Ordering}
 use Rattle.std.specs.declared.cmp.Ordering.TheVariants.{Less}
 use Rattle.std.specs.Cmp.Lexicographic.{slice_cmp}
+use Rattle.hopf_num.specs.Fractions.{Ratio}
 use Rattle.linear_combos.specs.Lists.{int_sum}
 use Rattle.linear_combos.specs.Readings.{Terms}
 
@@ -78,3 +79,17 @@ weighed weight ts = int_sum (map (λ t. t.0 *ℤ weight t.1) ts)
 pub record AddsTerm (old new : Terms) (num : ℤ) (key : List (List ℕ)) : Type 0 where
   pub weighs : (weight : List (List ℕ) → ℤ) → weighed weight new ≡ weighed weight old +ℤ (num *ℤ weight key)
   pub keys : (k : List (List ℕ)) → HasKey new k → HasKey old k ⊎ (k ≡ key)
+
+-- the sum of two combinations: whatever the keys weigh, its terms over its denominator weigh as much as theirs over theirs; and each of its keys is one of theirs
+pub record IsSum (a b c : Combination) : Type 0 where
+  pub rank : c.rank ≡ a.rank
+  pub weighs : (weight : List (List ℕ) → ℤ) → weighed weight c.terms *ℤ (pos a.den *ℤ pos b.den)
+      ≡ (weighed weight a.terms *ℤ pos b.den +ℤ weighed weight b.terms *ℤ pos a.den) *ℤ pos c.den
+  pub keys : (key : List (List ℕ)) → HasKey c.terms key → HasKey a.terms key ⊎ HasKey b.terms key
+
+-- the product of a combination with a ratio, in the same way
+pub record IsMultiple (a : Combination) (by : Ratio) (c : Combination) : Type 0 where
+  pub rank : c.rank ≡ a.rank
+  pub weighs : (weight : List (List ℕ) → ℤ) → weighed weight c.terms *ℤ (pos a.den *ℤ pos by.den)
+      ≡ (weighed weight a.terms *ℤ by.num) *ℤ pos c.den
+  pub keys : (key : List (List ℕ)) → HasKey c.terms key → HasKey a.terms key

@@ -6,12 +6,14 @@ pub mod Descents
 pub mod Exponents
 pub mod Faults
 pub mod Indices
-pub mod Keys
 pub mod KeyOrder
+pub mod Keys
 pub mod KnownValues
 pub mod Laws
 pub mod Lists
+pub mod Merges
 pub mod Pairings
+pub mod Points
 pub mod Readings
 pub mod Rows
 pub mod Standardisation

@@ -1,13 +1,18 @@
 //! Combinations: a rank, a denominator, and terms in canonical form.
-ghost use Rattle.std.specs.Prelude.{◌≡◌, ◌≢◌, ◌+◌, ◌^◌, ◌<◌, ◌≤◌, ℤ, pos, [], ◌∷◌, length, OnOk, OnErr, unsigned_abs, IfOk};
+ghost use Rattle.std.specs.Prelude.{◌≡◌, ◌≢◌, ◌↔◌, ◌+◌, ◌*◌, ◌/◌, ◌^◌, ◌<◌, ◌≤◌, ℕ, ℤ, pos, [], ◌∷◌, length, OnOk, OnErr, unsigned_abs, IfOk, IsTrue};
 ghost use Rattle.std.specs.List.{insert};
-ghost use Rattle.hopf_num.specs.declared.room.Need.TheVariants.{Sum};
-ghost use Rattle.linear_combos.specs.Combos.{IsCanonical, IsGapFor, AddsTerm, norm_of, term_at, terms_of};
-ghost use Rattle.linear_combos.specs.Faults.{TestsRoom};
+ghost use Rattle.hopf_num.specs.Divisors.{IsLcm};
+ghost use Rattle.hopf_num.specs.Room.{IsNeed, product_rule, sum_rule};
+ghost use Rattle.hopf_num.specs.declared.room.Need.TheVariants.{Sum, CommonDenominator};
+ghost use Rattle.linear_combos.specs.Combos.{IsCanonical, IsGapFor, AddsTerm, IsSum, IsMultiple, AreTerms, norm_of, term_at, terms_of};
+ghost use Rattle.linear_combos.specs.Merges.{IsCombined, IsOver};
+ghost use Rattle.linear_combos.specs.Faults.{TestsRoom, IsTested};
 
 use crate::Key;
-use crate::terms::{place, remove_term};
-use hopf_num::{Need, OutOfMemory, fits};
+use crate::lowest::{Unreduced, divide};
+use crate::merge::merge;
+use crate::terms::{copy_terms, place, remove_term};
+use hopf_num::{Fraction, Need, OutOfMemory, lcm};
 use std::alloc::{AllocError, Global};
 use std::marker::Model;
 
@@ -192,22 +197,178 @@ impl Combo {
         ensures same_rank { self.new.rank ≡ self.old.rank }
         ensures same_den { self.new.den ≡ self.old.den }
         ensures norm { norm_of self.new.terms ≤ norm_of self.old.terms + unsigned_abs num }
-        ensures room { TestsRoom (Sum (norm_of self.old.terms) 1 (unsigned_abs num) 1) result }
+        ensures room { TestsRoom (Sum (norm_of self.old.terms) 1 (unsigned_abs num) 1 ∷ []) result }
         ensures err { OnErr result (self.new ≡ self.old) }
     {
-        let norm = self.norm;
-        let size = num.unsigned_abs();
-        if !fits(norm + size, 1, 0) {
-            return Err(ComboFault::TooLarge(Need::Sum {
-                left: norm,
-                left_factor: 1,
-                right: size,
-                right_factor: 1,
-            }));
-        }
+        test(Need::Sum {
+            left: self.norm,
+            left_factor: 1,
+            right: num.unsigned_abs(),
+            right_factor: 1,
+        })?;
         match self.add_with_room(num, key) {
             Ok(()) => Ok(()),
             Err(_) => Err(ComboFault::Memory),
         }
     }
+
+    /// The sum of two combinations of one rank.
+    ///
+    /// It answers `TooLarge` exactly where the least common multiple of the denominators is 2^127 or
+    /// more, or else the sum of the norms over it is. `Memory` comes only where there is room. The
+    /// cost is one merge of the terms, and one more pass where a common factor is taken out.
+    pub fn plus(alloc: Global, a: &Combo, b: &Combo) -> Result<Combo, ComboFault>
+        requires rank { a.now.rank ≡ b.now.rank }
+        ensures sum { IfOk result (λ c. IsSum a.now b.now c) }
+        ensures room { (m : ℕ) → IsLcm a.now.den b.now.den m
+            → TestsRoom (sum_rule m a.now.den b.now.den (norm_of a.now.terms) (norm_of b.now.terms)) result }
+    {
+        let den = common_denominator(a.den, b.den)?;
+        Combo::plus_over(alloc, a, b, den)
+    }
+
+    /// The product with a fraction. By 0 it is zero.
+    ///
+    /// It answers `TooLarge` exactly where the product of the denominators is 2^127 or more, or else
+    /// that of the norm and the absolute numerator is, both before they are reduced. `Memory` comes
+    /// only where there is room. The cost is one pass over the terms, and one more where a common
+    /// factor is taken out.
+    pub fn scale(alloc: Global, a: &Combo, by: &Fraction) -> Result<Combo, ComboFault>
+        ensures multiple { IfOk result (λ c. IsMultiple a.now by.now c) }
+        ensures room { TestsRoom (product_rule a.now.den by.now.den (norm_of a.now.terms) (unsigned_abs by.now.num) 0) result }
+    {
+        let num = by.num();
+        let den = by.den() as u128;
+        test(Need::Denominator {
+            left: a.den,
+            right: den,
+        })?;
+        test(Need::Product {
+            left: a.norm,
+            right: num.unsigned_abs(),
+            shift: 0,
+        })?;
+        match combine(alloc, a.rank, a.den * den, &a.terms, num, &[], 0) {
+            Ok(multiple) => Ok(multiple),
+            Err(_) => Err(ComboFault::Memory),
+        }
+    }
+
+    /// The same combination.
+    pub fn copy(&self, alloc: Global) -> Result<Combo, OutOfMemory>
+        ensures { IfOk result (λ c. c ≡ self.now) }
+    {
+        Ok(Combo {
+            rank: self.rank,
+            den: self.den,
+            norm: self.norm,
+            terms: copy_terms(alloc, &self.terms)?,
+        })
+    }
+
+    /// Whether two combinations of one rank are equal in all parts. It takes no memory.
+    pub fn same(a: &Combo, b: &Combo) -> bool
+        requires rank { a.now.rank ≡ b.now.rank }
+        ensures { IsTrue result ↔ a.now ≡ b.now }
+    {
+        a.den == b.den && a.terms == b.terms
+    }
+
+    // The sum, over the least common multiple of the denominators.
+    fn plus_over(alloc: Global, a: &Combo, b: &Combo, den: u128) -> Result<Combo, ComboFault>
+        requires rank { a.now.rank ≡ b.now.rank }
+        requires least { IsLcm a.now.den b.now.den den }
+        requires small { den < 2 ^ 127 }
+        ensures sum { IfOk result (λ c. IsSum a.now b.now c) }
+        ensures room { TestsRoom (Sum (norm_of a.now.terms) (den / a.now.den) (norm_of b.now.terms) (den / b.now.den) ∷ []) result }
+    {
+        let left_factor = den / a.den;
+        let right_factor = den / b.den;
+        test(Need::Sum {
+            left: a.norm,
+            left_factor,
+            right: b.norm,
+            right_factor,
+        })?;
+        let sum = combine(
+            alloc,
+            a.rank,
+            den,
+            &a.terms,
+            left_factor as i128,
+            &b.terms,
+            right_factor as i128,
+        );
+        match sum {
+            Ok(sum) => Ok(sum),
+            Err(_) => Err(ComboFault::Memory),
+        }
+    }
+
+    // The same sum in lowest terms.
+    fn lowest(sum: Unreduced) -> Combo
+        ensures { IsOver sum.rank sum.den sum.terms result }
+    {
+        let Unreduced {
+            rank,
+            den,
+            common,
+            norm,
+            mut terms,
+        } = sum;
+        divide(&mut terms, common);
+        Combo {
+            rank,
+            den: den / common,
+            norm: norm / common,
+            terms,
+        }
+    }
+}
+
+// Whether what is needed has room.
+fn test(need: Need) -> Result<(), ComboFault>
+    requires { IsNeed need }
+    ensures { IsTested need result }
+{
+    if need.test().is_err() {
+        return Err(ComboFault::TooLarge(need));
+    }
+    Ok(())
+}
+
+// The least common multiple of two denominators.
+fn common_denominator(left: u128, right: u128) -> Result<u128, ComboFault>
+    requires left { 1 ≤ left }
+    requires right { 1 ≤ right }
+    ensures room { IsTested (CommonDenominator left right) result }
+    ensures least { IfOk result (λ m. IsLcm left right m) }
+    ensures small { IfOk result (λ m. m < 2 ^ 127) }
+{
+    match lcm(left, right) {
+        Some(den) => Ok(den),
+        None => Err(ComboFault::TooLarge(Need::CommonDenominator { left, right })),
+    }
+}
+
+// The sum of two lists of terms, each times a factor, over a denominator, in lowest terms.
+fn combine(
+    alloc: Global,
+    rank: u32,
+    den: u128,
+    left: &[(i128, Key)],
+    left_factor: i128,
+    right: &[(i128, Key)],
+    right_factor: i128,
+) -> Result<Combo, OutOfMemory>
+    requires positive { 1 ≤ den }
+    requires small { den < 2 ^ 127 }
+    requires left { AreTerms rank left.now }
+    requires right { AreTerms rank right.now }
+    requires room { norm_of left.now * unsigned_abs left_factor + norm_of right.now * unsigned_abs right_factor < 2 ^ 127 }
+    ensures { IfOk result (λ c. IsCombined rank den left.now left_factor right.now right_factor c) }
+{
+    let mut sum = Unreduced::new(alloc, rank, den);
+    merge(&mut sum, left, left_factor, right, right_factor)?;
+    Ok(Combo::lowest(sum))
 }

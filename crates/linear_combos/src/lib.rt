@@ -10,6 +10,8 @@ mod codes;
 mod combo;
 mod key;
 mod laws;
+mod lowest;
+mod merge;
 mod terms;
 #[cfg(test)]
 mod tests;

@@ -1,9 +1,10 @@
 //! Terms in rising order of keys: where a key is, or where it would go.
-ghost use Rattle.std.specs.Prelude.{◌≡◌, ◌<◌, length, IfOk, IfErr};
+ghost use Rattle.std.specs.Prelude.{◌≡◌, ◌^◌, ◌<◌, length, IfOk, IfErr};
 ghost use Rattle.std.specs.List.{remove};
-ghost use Rattle.linear_combos.specs.Combos.{HasRisingKeys, IsAt, IsGapFor};
+ghost use Rattle.linear_combos.specs.Combos.{HasRisingKeys, IsAt, IsGapFor, norm_of};
 
 use crate::Key;
+use std::alloc::{AllocError, Global};
 use std::cmp::Ordering;
 
 // Where the key is, or where it would go, by binary search.
@@ -31,4 +32,19 @@ pub(crate) fn remove_term(terms: &mut Vec<(i128, Key)>, at: usize)
     ensures { terms.new.items ≡ remove terms.old.items at }
 {
     terms.remove(at);
+}
+
+// The same terms.
+pub(crate) fn copy_terms(
+    alloc: Global,
+    terms: &[(i128, Key)],
+) -> Result<Vec<(i128, Key)>, AllocError>
+    requires { norm_of terms.now < 2 ^ 127 }
+    ensures { IfOk result (λ copy. copy.items ≡ terms.now) }
+{
+    let mut copy = Vec::with_capacity(alloc, terms.len())?;
+    for term in terms {
+        copy.push((term.0, term.1.copy()))?;
+    }
+    Ok(copy)
 }

@@ -1,5 +1,7 @@
+ghost use Rattle.std.specs.Prelude.{◌≡◌, IfOk};
+
 use super::*;
-use hopf_num::Need;
+use hopf_num::{Fraction, Need};
 use std::alloc::Global;
 use std::test::Fail;
 
@@ -66,5 +68,74 @@ fn terms_are_gathered(rt: HostRuntime) -> Result<(), Fail> {
     };
     assert_eq!(rt; answer, Err(ComboFault::TooLarge(need)));
     assert_eq!(rt; combo.norm(), (1 << 127) - 1);
+    Ok(())
+}
+
+// x times a fraction, where x is the key of the code of one letter.
+fn multiple(alloc: Global, num: i128, den: i128) -> Result<Combo, Fail>
+    ensures { IfOk result (λ c. c.rank ≡ 1) }
+{
+    let x = Combo::term(alloc, 1, Key::one(code(alloc, &[1])?))?;
+    Ok(Combo::scale(alloc, &x, &Fraction::new(num, den)?)?)
+}
+
+/// Sums, multiples and copies with ample memory.
+#[test]
+fn sums_and_multiples(rt: HostRuntime) -> Result<(), Fail> {
+    let half = multiple(rt.alloc(), 1, 2)?;
+    let third = multiple(rt.alloc(), 1, 3)?;
+    let sum = Combo::plus(rt.alloc(), &half, &third)?;
+    assert_eq!(rt; (sum.len(), sum.den(), sum.norm()), (1, 6, 5));
+    assert!(rt; Combo::same(&sum, &multiple(rt.alloc(), 5, 6)?));
+    assert!(rt; Combo::same(&sum, &sum.copy(rt.alloc())?));
+    assert!(rt; !Combo::same(&half, &third));
+
+    let negative = multiple(rt.alloc(), -1, 2)?;
+    let none = Combo::plus(rt.alloc(), &half, &negative)?;
+    assert_eq!(rt; (none.len(), none.den(), none.norm()), (0, 1, 0));
+    let none = multiple(rt.alloc(), 0, 7)?;
+    assert_eq!(rt; (none.len(), none.den(), none.norm()), (0, 1, 0));
+    Ok(())
+}
+
+/// Sums and multiples without room tell their numbers.
+#[test]
+fn sums_and_multiples_without_room(rt: HostRuntime) -> Result<(), Fail> {
+    let half = multiple(rt.alloc(), 1, 2)?;
+    let third = multiple(rt.alloc(), 1, 3)?;
+    let most: i128 = 1 << 126;
+    let small = multiple(rt.alloc(), 1, most)?;
+    let big = multiple(rt.alloc(), most, 1)?;
+    assert_eq!(rt;
+        Combo::plus(rt.alloc(), &small, &third).err(),
+        Some(ComboFault::TooLarge(Need::CommonDenominator {
+            left: 1 << 126,
+            right: 3,
+        }))
+    );
+    assert_eq!(rt;
+        Combo::plus(rt.alloc(), &big, &half).err(),
+        Some(ComboFault::TooLarge(Need::Sum {
+            left: 1 << 126,
+            left_factor: 2,
+            right: 1,
+            right_factor: 1,
+        }))
+    );
+    assert_eq!(rt;
+        Combo::scale(rt.alloc(), &small, &Fraction::new(1, 2)?).err(),
+        Some(ComboFault::TooLarge(Need::Denominator {
+            left: 1 << 126,
+            right: 2,
+        }))
+    );
+    assert_eq!(rt;
+        Combo::scale(rt.alloc(), &big, &Fraction::new(-2, 1)?).err(),
+        Some(ComboFault::TooLarge(Need::Product {
+            left: 1 << 126,
+            right: 2,
+            shift: 0,
+        }))
+    );
     Ok(())
 }

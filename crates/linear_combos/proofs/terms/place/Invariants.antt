@@ -1,5 +1,6 @@
 use Rattle.std.proofs.Common.{◌≤◌, ◌-◌, length}
-use Rattle.linear_combos.proofs.Place.{SmallerBelow, GreaterFrom}
+use Rattle.linear_combos.specs.Merges.{GreaterFrom}
+use Rattle.linear_combos.proofs.Place.{SmallerBelow}
 use Rattle.linear_combos.proofs.terms.place.Given as goal
 
 abbrev pub invariant-loop-low : goal.invariant-loop-low

@@ -1,0 +1,108 @@
+use Rattle.std.proofs.Common.{[], length, arith, subst, sym, ◌∙◌, ap, to_z, of_z}
+use Rattle.std.proofs.Math.IntN.{pos, ◌+ℤ◌, ◌*ℤ◌}
+use mir.Syntax.{w128}
+use Rattle.std.proofs.lemmas.Int.{to_z-of_z}
+use Rattle.std.proofs.lemmas.List.{get_or_default}
+use Rattle.hopf_num.proofs.SumsOfProducts.{abs_sum}
+use Rattle.linear_combos.specs.Combos.{term_at, IsGapFor}
+use Rattle.linear_combos.proofs.Merging.{IsMerged-turned, left_gap, left_room, left_added, both_room, both_added}
+use Rattle.linear_combos.proofs.merge.merge_step.Goals as goal
+
+pub scaled-num-requires-clause-room : goal.scaled-num-requires-clause-room
+scaled-num-requires-clause-room c =
+    let room = left_room _ c.args.left_factor _ c.args.right_factor _ _ _ c.requires.merged c.requires.room c.in-Less.ensures.0 in
+    rw (to_z-of_z w128 c.args.left_factor c.ranges.left_factor) (omega (arith, room))
+
+pub push-requires-clause-room : goal.push-requires-clause-room
+push-requires-clause-room c =
+    let factor = to_z-of_z w128 c.args.left_factor c.ranges.left_factor in
+    let num = to_z-of_z w128 c.scaled-num.result (record { sfits = c.scaled-num.type_inv }) ∙ c.scaled-num.ensures ∙ ap (λ z. (term_at c.args.left.now c.args.at.0).0 *ℤ z) factor in
+    rw num (left_room _ c.args.left_factor _ c.args.right_factor _ _ _ c.requires.merged c.requires.room c.in-Less.ensures.0)
+
+pub returns-in_ok-push-in-Less-clause-merged : goal.returns-in_ok-push-in-Less-clause-merged
+returns-in_ok-push-in-Less-clause-merged c =
+    let here = c.in-Less.ensures.0 in
+    let factor = to_z-of_z w128 c.args.left_factor c.ranges.left_factor in
+    let num = to_z-of_z w128 c.scaled-num.result (record { sfits = c.scaled-num.type_inv }) ∙ c.scaled-num.ensures ∙ ap (λ z. (term_at c.args.left.now c.args.at.0).0 *ℤ z) factor in
+    let key = c.copy.ensures ∙ ap (λ t. t.1) (get_or_default c.args.left.now c.args.at.0 c.index-left-i.result (pos 0, []) here) in
+    left_added c.args.left.now c.args.left_factor c.args.right.now c.args.right_factor c.args.at.0 c.args.at.1 c.args.sum.now.terms c.requires.merged c.requires.room here
+    c.push.new.self.terms _ _ c.in-Less.ensures.1 c.requires.left.rising num key c.in_ok-push-in-Less.ensures.adds c.push.ensures.norm
+
+pub scaled-num-requires-in-Greater-clause-room : goal.scaled-num-requires-in-Greater-clause-room
+scaled-num-requires-in-Greater-clause-room c =
+    let turned = IsMerged-turned _ _ _ _ _ _ _ c.requires.merged in
+    let room = left_room _ c.args.right_factor _ c.args.left_factor _ _ _ turned (omega (arith, c.requires.room)) c.in-Greater.ensures.0 in
+    rw (to_z-of_z w128 c.args.right_factor c.ranges.right_factor) (omega (arith, room))
+
+pub push-requires-in-Greater-clause-room : goal.push-requires-in-Greater-clause-room
+push-requires-in-Greater-clause-room c =
+    let turned = IsMerged-turned _ _ _ _ _ _ _ c.requires.merged in
+    let factor = to_z-of_z w128 c.args.right_factor c.ranges.right_factor in
+    let num = to_z-of_z w128 c.scaled-num-in-Greater.result (record { sfits = c.scaled-num-in-Greater.type_inv }) ∙ c.scaled-num-in-Greater.ensures
+    ∙ ap (λ z. (term_at c.args.right.now c.args.at.1).0 *ℤ z) factor in
+    rw num (left_room _ c.args.right_factor _ c.args.left_factor _ _ _ turned (omega (arith, c.requires.room)) c.in-Greater.ensures.0)
+
+pub returns-in_ok-push-in-Greater-clause-merged : goal.returns-in_ok-push-in-Greater-clause-merged
+returns-in_ok-push-in-Greater-clause-merged c =
+    let there = c.in-Greater.ensures.0 in
+    let turned = IsMerged-turned _ _ _ _ _ _ _ c.requires.merged in
+    let factor = to_z-of_z w128 c.args.right_factor c.ranges.right_factor in
+    let num = to_z-of_z w128 c.scaled-num-in-Greater.result (record { sfits = c.scaled-num-in-Greater.type_inv }) ∙ c.scaled-num-in-Greater.ensures
+    ∙ ap (λ z. (term_at c.args.right.now c.args.at.1).0 *ℤ z) factor in
+    let key = c.copy-in-Greater.ensures ∙ ap (λ t. t.1) (get_or_default c.args.right.now c.args.at.1 c.index-right-j.result (pos 0, []) there) in
+    IsMerged-turned _ _ _ _ _ _ _
+    (left_added c.args.right.now c.args.right_factor c.args.left.now c.args.left_factor c.args.at.1 c.args.at.0 c.args.sum.now.terms turned (omega (arith, c.requires.room)) there
+    c.push-in-Greater.new.self.terms _ _ c.in-Greater.ensures.1 c.requires.right.rising num key c.in_ok-push-in-Greater.ensures.adds c.push-in-Greater.ensures.norm)
+
+pub scaled-requires-clause-room : goal.scaled-requires-clause-room
+scaled-requires-clause-room c =
+    let room = left_room _ c.args.left_factor _ c.args.right_factor _ _ _ c.requires.merged c.requires.room c.in-Equal.ensures.0 in
+    rw (to_z-of_z w128 c.args.left_factor c.ranges.left_factor) (omega (arith, room))
+
+pub scaled-requires-in-Equal-clause-room : goal.scaled-requires-in-Equal-clause-room
+scaled-requires-in-Equal-clause-room c =
+    let turned = IsMerged-turned _ _ _ _ _ _ _ c.requires.merged in
+    let room = left_room _ c.args.right_factor _ c.args.left_factor _ _ _ turned (omega (arith, c.requires.room)) c.in-Equal.ensures.1 in
+    rw (to_z-of_z w128 c.args.right_factor c.ranges.right_factor) (omega (arith, room))
+
+pub total-num-requires : goal.total-num-requires
+total-num-requires c =
+    let left = to_z-of_z w128 c.scaled.result (record { sfits = c.scaled.type_inv }) ∙ c.scaled.ensures
+    ∙ ap (λ z. (term_at c.args.left.now c.args.at.0).0 *ℤ z) (to_z-of_z w128 c.args.left_factor c.ranges.left_factor) in
+    let right = to_z-of_z w128 c.scaled-in-Equal.result (record { sfits = c.scaled-in-Equal.type_inv }) ∙ c.scaled-in-Equal.ensures
+    ∙ ap (λ z. (term_at c.args.right.now c.args.at.1).0 *ℤ z) (to_z-of_z w128 c.args.right_factor c.ranges.right_factor) in
+    let room = both_room _ c.args.left_factor _ c.args.right_factor _ _ _ c.requires.merged c.requires.room c.in-Equal.ensures.0 c.in-Equal.ensures.1 in
+    rw (left, right) (omega (arith, room))
+
+pub push-requires-in-Equal-clause-last : goal.push-requires-in-Equal-clause-last
+push-requires-in-Equal-clause-last c =
+    let here = c.in-Equal.ensures.0 in
+    let key = c.copy-in-Equal.ensures ∙ ap (λ t. t.1) (get_or_default c.args.left.now c.args.at.0 c.index-left-i-in-Equal.result (pos 0, []) here) in
+    subst (λ k. IsGapFor c.args.sum.now.terms k (length c.args.sum.now.terms)) (sym key)
+    (left_gap _ c.args.left_factor _ c.args.right_factor _ _ _ c.requires.merged c.requires.room here)
+
+pub push-requires-in-Equal-clause-room : goal.push-requires-in-Equal-clause-room
+push-requires-in-Equal-clause-room c =
+    let left = to_z-of_z w128 c.scaled.result (record { sfits = c.scaled.type_inv }) ∙ c.scaled.ensures
+    ∙ ap (λ z. (term_at c.args.left.now c.args.at.0).0 *ℤ z) (to_z-of_z w128 c.args.left_factor c.ranges.left_factor) in
+    let right = to_z-of_z w128 c.scaled-in-Equal.result (record { sfits = c.scaled-in-Equal.type_inv }) ∙ c.scaled-in-Equal.ensures
+    ∙ ap (λ z. (term_at c.args.right.now c.args.at.1).0 *ℤ z) (to_z-of_z w128 c.args.right_factor c.ranges.right_factor) in
+    let num = to_z-of_z w128 c.total-num.result (record { sfits = c.total-num.type_inv }) ∙ c.total-num.ensures ∙ ap (λ z. z +ℤ to_z w128 (of_z w128 c.scaled-in-Equal.result)) left
+    ∙ ap (λ z. (term_at c.args.left.now c.args.at.0).0 *ℤ c.args.left_factor +ℤ z) right in
+    let room = both_room _ c.args.left_factor _ c.args.right_factor _ _ _ c.requires.merged c.requires.room c.in-Equal.ensures.0 c.in-Equal.ensures.1 in
+    let size = abs_sum ((term_at c.args.left.now c.args.at.0).0 *ℤ c.args.left_factor) ((term_at c.args.right.now c.args.at.1).0 *ℤ c.args.right_factor) in
+    rw num (omega (arith, room, size))
+
+pub returns-in_ok-push-in-Equal-clause-merged : goal.returns-in_ok-push-in-Equal-clause-merged
+returns-in_ok-push-in-Equal-clause-merged c =
+    let here = c.in-Equal.ensures.0 in
+    let there = c.in-Equal.ensures.1 in
+    let left = to_z-of_z w128 c.scaled.result (record { sfits = c.scaled.type_inv }) ∙ c.scaled.ensures
+    ∙ ap (λ z. (term_at c.args.left.now c.args.at.0).0 *ℤ z) (to_z-of_z w128 c.args.left_factor c.ranges.left_factor) in
+    let right = to_z-of_z w128 c.scaled-in-Equal.result (record { sfits = c.scaled-in-Equal.type_inv }) ∙ c.scaled-in-Equal.ensures
+    ∙ ap (λ z. (term_at c.args.right.now c.args.at.1).0 *ℤ z) (to_z-of_z w128 c.args.right_factor c.ranges.right_factor) in
+    let num = to_z-of_z w128 c.total-num.result (record { sfits = c.total-num.type_inv }) ∙ c.total-num.ensures ∙ ap (λ z. z +ℤ to_z w128 (of_z w128 c.scaled-in-Equal.result)) left
+    ∙ ap (λ z. (term_at c.args.left.now c.args.at.0).0 *ℤ c.args.left_factor +ℤ z) right in
+    let key = c.copy-in-Equal.ensures ∙ ap (λ t. t.1) (get_or_default c.args.left.now c.args.at.0 c.index-left-i-in-Equal.result (pos 0, []) here) in
+    both_added c.args.left.now c.args.left_factor c.args.right.now c.args.right_factor c.args.at.0 c.args.at.1 c.args.sum.now.terms c.requires.merged c.requires.room here there
+    c.push-in-Equal.new.self.terms _ _ c.in-Equal.ensures.2 c.requires.left.rising c.requires.right.rising num key c.in_ok-push-in-Equal.ensures.adds c.push-in-Equal.ensures.norm
