@@ -13,7 +13,6 @@ pub mod Laws
 pub mod Lists
 pub mod Merges
 pub mod Pairings
-pub mod Points
 pub mod Readings
 pub mod Rows
 pub mod Standardisation
