@@ -18,6 +18,10 @@ gcd_by_fuel (suc fuel) a (suc b) small =
 pub gcd-exists : (a b : ℕ) → (g : ℕ) × IsGcd a b g
 gcd-exists a b = gcd_by_fuel b a b (omega arith)
 
+-- the order of the two numbers is no matter
+pub IsGcd-turned : (a b g : ℕ) → IsGcd a b g → IsGcd b a g
+IsGcd-turned a b g is = (is.1, is.0, λ d p q. is.2 d q p)
+
 -- a factor comes out of a greatest common divisor
 pub IsGcd-times : (k a b g : ℕ) → 0 < k → IsGcd a b g → IsGcd (k * a) (k * b) (k * g)
 IsGcd-times k a b g positive is =

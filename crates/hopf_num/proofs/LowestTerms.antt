@@ -1,13 +1,15 @@
 -- A ratio in lowest terms.
-use Rattle.std.proofs.Common.{◌≡◌, ℕ, zero, suc, ◌*◌, ◌/◌, ◌^◌, ◌<◌, ◌≤◌, ℤ, pos, negsuc, ◌*ℤ◌, neg_ℤ, int_div, unsigned_abs, arith, refl, sym, ap, ◌∙◌, subst}
+use Rattle.std.proofs.Common.{◌≡◌, ◌≢◌, ℕ, zero, suc, ◌*◌, ◌/◌, ◌^◌, ◌<◌, ◌≤◌, ℤ, pos, negsuc, ◌*ℤ◌, neg_ℤ, int_div, unsigned_abs, arith, refl, sym, ap, ◌∙◌, subst}
 use Rattle.std.specs.Int.{◌∣◌, IsGcd}
 use Rattle.std.proofs.Math.IntN.{*ℤ_comm, pos-*ℤ-pos}
-use Rattle.std.proofs.Math.Nat.{mul-div_cancel', pos_of_dvd_of_pos, div-le_self, mul-zero, mul_comm}
-use Rattle.hopf_num.specs.Fractions.{IsFraction}
-use Rattle.hopf_num.proofs.CommonDivisors.{IsGcd-quotients}
-use Rattle.hopf_num.proofs.Ring.{*ℤ_assoc, *ℤ-neg_ℤ}
+use Rattle.std.proofs.Math.Nat.{mul-div_cancel', pos_of_dvd_of_pos, div-le_self, mul-zero, mul_comm, dvd-mul_left}
+use Rattle.std.proofs.lemmas.Int.{unsigned_abs-mul}
+use Rattle.std.proofs.lemmas.Nat.Gcd.{dvd_antisymm}
+use Rattle.hopf_num.specs.Fractions.{Ratio, IsFraction}
+use Rattle.hopf_num.proofs.CommonDivisors.{IsGcd-turned, IsGcd-quotients, dvd-times_coprime}
+use Rattle.hopf_num.proofs.Ring.{*ℤ_assoc, *ℤ-neg_ℤ, *ℤ-pos_cancel}
 
-abs-neg : (n : ℕ) → unsigned_abs (neg_ℤ (pos n)) ≡ n
+pub abs-neg : (n : ℕ) → unsigned_abs (neg_ℤ (pos n)) ≡ n
 abs-neg zero = refl
 abs-neg (suc n) = refl
 
@@ -58,3 +60,29 @@ ratio-quotients num den g is =
     let back : g * (den / g) ≡ den = mul-div_cancel' g is.1 in
     ap (λ n. int_div num (pos g) *ℤ pos n) (sym back) ∙ ap (λ z. int_div num (pos g) *ℤ z) (sym (pos-*ℤ-pos g (den / g)))
     ∙ *ℤ_assoc (int_div num (pos g)) (pos g) (pos (den / g)) ∙ ap (λ z. z *ℤ pos (den / g)) (int_div-times num g is.0)
+
+-- two fractions that are the same number have the same numerator and denominator
+pub fraction-unique : (r s : Ratio) → IsFraction r → IsFraction s → r.num *ℤ pos s.den ≡ s.num *ℤ pos r.den → r ≡ s
+fraction-unique r s hr hs same =
+    let sizes : unsigned_abs r.num * s.den ≡ unsigned_abs s.num * r.den =
+    sym (unsigned_abs-mul r.num (pos s.den)) ∙ ap unsigned_abs same ∙ unsigned_abs-mul s.num (pos r.den) in
+    let left : r.den ∣ s.den = dvd-times_coprime _ _ _ (IsGcd-turned _ _ _ hr.lowest) (subst (λ n. r.den ∣ n) (sym sizes) (dvd-mul_left r.den (unsigned_abs s.num))) in
+    let right : s.den ∣ r.den = dvd-times_coprime _ _ _ (IsGcd-turned _ _ _ hs.lowest) (subst (λ n. s.den ∣ n) sizes (dvd-mul_left s.den (unsigned_abs r.num))) in
+    let den : r.den ≡ s.den = dvd_antisymm left right in
+    let num : r.num ≡ s.num = *ℤ-pos_cancel r.num s.num s.den hs.positive (same ∙ ap (λ n. s.num *ℤ pos n) den) in
+    λ i. record { num = num i; den = den i }
+
+abs-positive : (z : ℤ) → z ≢ pos 0 → 1 ≤ unsigned_abs z
+abs-positive (pos zero) h = absurd (h refl)
+abs-positive (pos (suc n)) h = omega arith
+abs-positive (negsuc n) h = omega arith
+
+-- a denominator, with some sign, over an absolute numerator
+pub IsFraction-turned : (r : Ratio) (num : ℤ) (den : ℕ) → IsFraction r → r.num ≢ pos 0 → unsigned_abs num ≡ r.den → den ≡ unsigned_abs r.num
+    → IsFraction (record { num = num; den = den })
+IsFraction-turned r num den is nonzero size whole = record {
+  positive = rw whole (abs-positive r.num nonzero);
+  lowest = rw (size, whole) (IsGcd-turned _ _ _ is.lowest);
+  num_small = rw size is.den_small;
+  den_small = rw whole is.num_small;
+}

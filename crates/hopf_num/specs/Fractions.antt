@@ -1,5 +1,5 @@
 -- Fractions: a whole numerator over a positive denominator.
-use Rattle.std.specs.Prelude.{ℕ, ◌^◌, ◌<◌, ◌≤◌, ℤ, List, [], ◌++◌, ◌==◌, if◌then◌else◌, codes, unsigned_abs}
+use Rattle.std.specs.Prelude.{ℕ, ◌^◌, ◌<◌, ◌≤◌, ℤ, pos, negsuc, neg_ℤ, List, [], ◌++◌, ◌==◌, if◌then◌else◌, codes, unsigned_abs}
 use Rattle.std.specs.Fmt.{decimal, signed_decimal}
 use Rattle.std.specs.Int.{IsGcd}
 
@@ -14,6 +14,15 @@ pub record IsFraction (r : Ratio) : Type 0 where
   pub lowest : IsGcd (unsigned_abs r.num) r.den 1
   pub num_small : unsigned_abs r.num < 2 ^ 127
   pub den_small : r.den < 2 ^ 127
+
+-- a number with the sign of another one
+abbrev pub with_sign_of : ℤ → ℕ → ℤ
+with_sign_of (pos n) m = pos m
+with_sign_of (negsuc n) m = neg_ℤ (pos m)
+
+-- one over a ratio that is not 0: its denominator, with its sign, over its absolute numerator
+abbrev pub reciprocal : Ratio → Ratio
+reciprocal r = record { num = with_sign_of r.num r.den; den = unsigned_abs r.num }
 
 -- a denominator in the text of a fraction: left out where it is 1
 abbrev pub over_text : ℕ → List ℕ

@@ -1,7 +1,7 @@
 //! Exact fractions.
 ghost use Rattle.std.specs.Prelude.{◌≡◌, ◌≢◌, ◌↔◌, ◌^◌, ◌<◌, ◌≤◌, ◌/◌, ℕ, pos, [], ◌∷◌, ◌+ℤ◌, ◌*ℤ◌, neg_ℤ, unsigned_abs, length, take, Err, IfOk};
 ghost use Rattle.hopf_num.specs.Divisors.{IsLcm};
-ghost use Rattle.hopf_num.specs.Fractions.{Ratio, IsFraction, fraction_text};
+ghost use Rattle.hopf_num.specs.Fractions.{Ratio, IsFraction, reciprocal, fraction_text};
 ghost use Rattle.hopf_num.specs.Room.{TestsRoom, product_rule, sum_rule};
 ghost use Rattle.hopf_num.specs.declared.room.Need.TheVariants.{CommonDenominator, Denominator, Linear, Sum};
 ghost use Rattle.hopf_num.specs.declared.room.NumFault.TheVariants.{ZeroDivisor};
@@ -118,6 +118,18 @@ impl Fraction {
         Fraction {
             num: negation(self.num),
             den: self.den,
+        }
+    }
+
+    /// One over the fraction, which is not 0.
+    pub fn recip(&self) -> Fraction
+        requires { self.now.num ≢ pos 0 }
+        ensures { result ≡ reciprocal self.now }
+    {
+        let den = self.den as i128;
+        Fraction {
+            num: if self.num < 0 { negation(den) } else { den },
+            den: self.num.unsigned_abs(),
         }
     }
 
