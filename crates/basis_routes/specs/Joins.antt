@@ -1,14 +1,18 @@
 -- The bases of sums and products.
-use Rattle.std.specs.Prelude.{List, [], ◌∷◌, Option, Some, None, unwrap_or}
+use Rattle.std.specs.Prelude.{List, [], ◌∷◌, unwrap_or}
 use Rattle.hopf_laws.specs.declared.bases.BasisId.{BasisId}
-use Rattle.hopf_laws.specs.declared.bases.BasisId.TheVariants.{QsymM}
-
--- the join of two bases: of one algebra, the left one
-abbrev pub join_of : BasisId → BasisId → Option BasisId
-join_of QsymM QsymM = Some QsymM
+use Rattle.basis_routes.specs.declared.checks.Check.{Check}
+use Rattle.basis_routes.specs.declared.checks.Check.TheVariants.{Joined}
+use Rattle.basis_routes.specs.JoinTable.{join_of}
 
 -- the joins of two lists of bases, component by component; where there is none, the left one stays
 abbrev pub joined : List BasisId → List BasisId → List BasisId
 joined [] rights = []
 joined (left ∷ lefts) [] = []
 joined (left ∷ lefts) (right ∷ rights) = unwrap_or (join_of left right) left ∷ joined lefts rights
+
+-- that each two components have a join
+abbrev pub join_checks : List BasisId → List BasisId → List Check
+join_checks [] rights = []
+join_checks (left ∷ lefts) [] = []
+join_checks (left ∷ lefts) (right ∷ rights) = Joined left right ∷ join_checks lefts rights

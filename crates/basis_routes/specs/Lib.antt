@@ -1,3 +1,5 @@
+pub mod Checks
+pub mod JoinTable
 pub mod Joins
 pub mod Lists
 pub mod Rules

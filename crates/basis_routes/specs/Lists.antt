@@ -1,11 +1,11 @@
--- The bases of a value as a list.
+-- A list of bases as it is held.
 use Rattle.std.specs.Prelude.{List, [], ◌∷◌}
 use Rattle.hopf_laws.specs.declared.bases.BasisId.{BasisId}
-use Rattle.basis_routes.specs.declared.bases.Bases.{Bases}
-use Rattle.basis_routes.specs.declared.bases.Bases.TheVariants.{None, One, Two, Three}
+use Rattle.basis_routes.specs.declared.bases.Held.{Held}
+use Rattle.basis_routes.specs.declared.bases.Held.TheVariants.{None, One, Two, Three}
 
 -- in the order of the components
-abbrev pub bases_of : Bases → List BasisId
+abbrev pub bases_of : Held → List BasisId
 bases_of None = []
 bases_of (One a) = a ∷ []
 bases_of (Two a b) = a ∷ b ∷ []

@@ -2,11 +2,14 @@
 #![tactic(auto)]
 
 mod bases;
+mod checks;
 mod joins;
 mod refusal;
 mod rules;
 mod value;
 
+pub use bases::Bases;
+pub use checks::Check;
 pub use joins::join;
 pub use refusal::{Place, Refusal};
 pub use rules::{is_index, product_of};

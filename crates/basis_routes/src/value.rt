@@ -1,13 +1,9 @@
 //! Values: canonical combinations over a list of bases.
 ghost use Rattle.std.specs.Prelude.{◌≡◌, ◌≢◌, ◌≤◌, ◌-◌, ◌*ℤ◌, ◌↔◌, pos, [], ◌∷◌, length, slice_index_or, IfOk, MatchOption};
-ghost use Rattle.linear_combos.specs.Indices.{total_degree};
-ghost use Rattle.hopf_laws.specs.Bases.{rows_of};
-ghost use Rattle.hopf_laws.specs.Values.{Expansion, IsValue, Expands, reading_of, degree_of_value};
-ghost use Rattle.basis_routes.specs.Lists.{bases_of};
+ghost use Rattle.hopf_laws.specs.Values.{Expansion, IsValue, Expands, reading_of, ratio_of, degree_of_value};
 ghost use Rattle.basis_routes.specs.Rules.{IsIndexWithin};
 
-use crate::bases::{Bases, basis_at, held};
-use crate::rules::degree_of_code;
+use crate::Bases;
 use hopf_laws::BasisId;
 use hopf_num::{Fraction, OutOfMemory};
 use linear_combos::{Code, Combo, Key};
@@ -27,13 +23,12 @@ pub struct Value {
 
 impl Model for Value {
     ghost use Rattle.hopf_laws.specs.Values.{Expansion, IsValue};
-    ghost use Rattle.basis_routes.specs.Lists.{bases_of};
 
     ghost Value = { Expansion };
 
-    ghost view = { λ v. record { bases = bases_of v.bases; combination = v.combo } };
+    ghost view = { λ v. record { bases = v.bases; combination = v.combo } };
 
-    ghost invariant = { λ v. IsValue (record { bases = bases_of v.bases; combination = v.combo }) };
+    ghost invariant = { λ v. IsValue (record { bases = v.bases; combination = v.combo }) };
 }
 
 impl Value {
@@ -44,7 +39,7 @@ impl Value {
     {
         let combo = Combo::term(alloc, 1, Key::one(code))?;
         Ok(Value {
-            bases: Bases::One(basis),
+            bases: Bases::new(&[basis]),
             combo,
         })
     }
@@ -55,9 +50,17 @@ impl Value {
         ensures { result ≡ record { bases = bases.now; combination = combo } }
     {
         Value {
-            bases: held(bases),
+            bases: Bases::new(bases),
             combo,
         }
+    }
+
+    /// The same, from a list of bases.
+    pub fn over(bases: Bases, combo: Combo) -> Value
+        requires { IsValue (record { bases = bases; combination = combo }) }
+        ensures { result ≡ record { bases = bases; combination = combo } }
+    {
+        Value { bases, combo }
     }
 
     /// How many components there are, from 0 to 3.
@@ -74,7 +77,15 @@ impl Value {
         requires last { component ≤ length self.now.bases }
         ensures { result ≡ slice_index_or self.now.bases (component - 1) result }
     {
-        basis_at(self.bases, component)
+        self.bases.at(component)
+    }
+
+    /// The bases of the components.
+    pub fn bases(&self) -> &Bases
+        ensures bases { result.now ≡ self.now.bases }
+        ensures value { IsValue self.now }
+    {
+        &self.bases
     }
 
     /// The combination.
@@ -93,29 +104,33 @@ impl Value {
     {
         let mut greatest = 0;
         for at in 0..self.combo.len() {
-            let degree = degree_of_key(self.bases, self.combo.key_at(at));
+            let degree = self.bases.degree_of_key(self.combo.key_at(at));
             if greatest < degree {
                 greatest = degree;
             }
         }
         greatest
     }
-}
 
-// The sum of the degrees of the codes of a key.
-fn degree_of_key(bases: Bases, key: &Key) -> u32
-    requires rank { length key.now ≡ length (bases_of bases) }
-    requires small { total_degree (rows_of (bases_of bases)) key.now ≤ 255 }
-    ensures { result ≡ total_degree (rows_of (bases_of bases)) key.now }
-{
-    match bases {
-        Bases::None => 0,
-        Bases::One(a) => degree_of_code(a, key.code(1)),
-        Bases::Two(a, b) => degree_of_code(a, key.code(1)) + degree_of_code(b, key.code(2)),
-        Bases::Three(a, b, c) => {
-            degree_of_code(a, key.code(1))
-                + degree_of_code(b, key.code(2))
-                + degree_of_code(c, key.code(3))
+    /// The number that a scalar is, or `None` exactly where the rank is not 0.
+    pub fn as_fraction(&self) -> Option<Fraction>
+        ensures { MatchOption result (length self.now.bases ≢ 0) (λ f. (length self.now.bases ≡ 0) × (f ≡ ratio_of self.now)) }
+    {
+        if self.combo.rank() != 0 {
+            return None;
         }
+        let num = if self.combo.len() == 0 { 0 } else { self.combo.num_at(0) };
+        Some(Fraction::new(num, self.combo.den()).unwrap())
+    }
+
+    /// The same value.
+    pub fn copy(&self, alloc: Global) -> Result<Value, OutOfMemory>
+        ensures { IfOk result (λ v. v ≡ self.now) }
+    {
+        let combo = self.combo.copy(alloc)?;
+        Ok(Value {
+            bases: self.bases.copy(),
+            combo,
+        })
     }
 }

@@ -1,8 +1,9 @@
 -- Values: combinations over a list of bases.
 use Rattle.std.specs.Prelude.{◌≡◌, ℕ, ◌≤◌, max, List, [], ◌∷◌, length}
+use Rattle.hopf_num.specs.Fractions.{Ratio}
 use Rattle.linear_combos.specs.Combos.{Combination, IsCanonical, HasKey}
 use Rattle.linear_combos.specs.Indices.{AreIndices, total_degree}
-use Rattle.linear_combos.specs.Readings.{Terms, Reading, leaf, AgreeAt}
+use Rattle.linear_combos.specs.Readings.{Terms, Reading, leaf, numerator, AgreeAt}
 use Rattle.linear_combos.specs.Rows.{Row}
 use Rattle.hopf_laws.specs.declared.bases.BasisId.{BasisId}
 use Rattle.hopf_laws.specs.Bases.{rows_of, least_limit}
@@ -23,6 +24,10 @@ pub record IsValue (v : Expansion) : Type 0 where
 -- what a value reads as
 abbrev pub reading_of : Expansion → Reading
 reading_of v = leaf (rows_of v.bases) v.combination.den v.combination.terms
+
+-- the number that a scalar is
+abbrev pub ratio_of : Expansion → Ratio
+ratio_of v = record { num = numerator (reading_of v) []; den = v.combination.den }
 
 -- the greatest degree of the keys of terms, 0 where there are none
 abbrev pub greatest_degree : List Row → Terms → ℕ

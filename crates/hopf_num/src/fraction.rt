@@ -40,6 +40,7 @@ impl Fraction {
         ensures zero { result ≡ Err ZeroDivisor ↔ den ≡ pos 0 }
         ensures room { den ≢ pos 0 → TestsRoom (Denominator (unsigned_abs den) 1 ∷ Linear (unsigned_abs num) 0 ∷ []) result }
         ensures value { IfOk result (λ f. f.num *ℤ den ≡ num *ℤ pos f.den) }
+        ensures lowest { IfOk result (λ f. IsFraction f) }
     {
         if den == 0 {
             return Err(NumFault::ZeroDivisor);
@@ -164,7 +165,8 @@ impl Fraction {
         requires num { unsigned_abs num < 2 ^ 127 }
         requires positive { 1 ≤ den }
         requires small { den < 2 ^ 127 }
-        ensures { result.num *ℤ pos den ≡ num *ℤ pos result.den }
+        ensures value { result.num *ℤ pos den ≡ num *ℤ pos result.den }
+        ensures lowest { IsFraction result }
     {
         let common = gcd(num.unsigned_abs(), den);
         Fraction {

@@ -37,9 +37,16 @@ invariant_of-result c =
     rw (is_quotient c.args.num c.quotient.result c.gcd-common.result c.ranges.num (record { sfits = c.quotient.type_inv }) small c.quotient.ensures)
     (IsFraction-quotients c.args.num c.args.den _ c.requires.num c.requires.positive c.requires.small is)
 
-pub returns : goal.returns
-returns c =
+pub returns-clause-value : goal.returns-clause-value
+returns-clause-value c =
     let small = common_small _ _ _ c.requires.positive c.requires.small c.gcd-common.ensures in
     let is = is_gcd c.args.num _ c.args.den _ c.ranges.num c.unsigned_abs.ensures.value c.gcd-common.ensures in
     rw (is_quotient c.args.num c.quotient.result c.gcd-common.result c.ranges.num (record { sfits = c.quotient.type_inv }) small c.quotient.ensures)
     (ratio-quotients c.args.num c.args.den _ is)
+
+pub returns-clause-lowest : goal.returns-clause-lowest
+returns-clause-lowest c =
+    let small = common_small _ _ _ c.requires.positive c.requires.small c.gcd-common.ensures in
+    let is = is_gcd c.args.num _ c.args.den _ c.ranges.num c.unsigned_abs.ensures.value c.gcd-common.ensures in
+    rw (is_quotient c.args.num c.quotient.result c.gcd-common.result c.ranges.num (record { sfits = c.quotient.type_inv }) small c.quotient.ensures)
+    (IsFraction-quotients c.args.num c.args.den _ c.requires.num c.requires.positive c.requires.small is)

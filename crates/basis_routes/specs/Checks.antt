@@ -1,0 +1,54 @@
+-- Rows of checks: an operation is refused by the first of its checks that fails.
+use Rattle.std.specs.Prelude.{◌≡◌, ◌≢◌, ℕ, ◌≤◌, ◌⊎◌, ℤ, pos, List, [], ◌∷◌, map, All, IsSome, Result, MatchResult}
+use Rattle.hopf_num.specs.declared.room.Need.{Need}
+use Rattle.hopf_num.specs.Room.{HasRoom, IsNeed}
+use Rattle.hopf_laws.specs.Bases.{algebra_of}
+use Rattle.basis_routes.specs.declared.refusal.Refusal.{Refusal}
+use Rattle.basis_routes.specs.declared.refusal.Refusal.TheVariants.{Rank, NotScalar, ZeroDivisor, Mixed, Degree, TooLarge, Memory}
+use Rattle.basis_routes.specs.declared.checks.Check.{Check}
+use Rattle.basis_routes.specs.declared.checks.Check.TheVariants.{SameRank, RankWithin, Scalar, Nonzero, Joined, DegreeWithin, Room}
+use Rattle.basis_routes.specs.JoinTable.{join_of}
+
+-- the check passes
+abbrev pub Passes : Check → Type 0
+Passes (SameRank left right) = left ≡ right
+Passes (RankWithin rank) = rank ≤ 3
+Passes (Scalar rank) = rank ≡ 0
+Passes (Nonzero num) = num ≢ pos 0
+Passes (Joined left right) = IsSome (join_of left right)
+Passes (DegreeWithin degree limit) = degree ≤ limit
+Passes (Room need) = HasRoom need
+
+-- the refusal of a check that fails
+abbrev pub refusal_of : Check → Refusal
+refusal_of (SameRank left right) = Rank
+refusal_of (RankWithin rank) = Rank
+refusal_of (Scalar rank) = NotScalar
+refusal_of (Nonzero num) = ZeroDivisor
+refusal_of (Joined left right) = Mixed (algebra_of left) (algebra_of right)
+refusal_of (DegreeWithin degree limit) = Degree degree limit
+refusal_of (Room need) = TooLarge need
+
+-- what can be checked
+abbrev pub IsCheck : Check → Type 0
+IsCheck (Room need) = IsNeed need
+IsCheck _ = Unit {0}
+
+-- it is the refusal of the first of these checks that fails
+abbrev pub IsFirstFailing : List Check → Refusal → Type 0
+IsFirstFailing [] refusal = ⊥
+IsFirstFailing (check ∷ checks) refusal =
+    ((refusal ≡ refusal_of check) × (Passes check → ⊥)) ⊎ (Passes check × IsFirstFailing checks refusal)
+
+-- a refusal of a call with these checks: want of memory may come at any time
+abbrev pub IsRefusalOf : List Check → Refusal → Type 0
+IsRefusalOf checks Memory = Unit {0}
+IsRefusalOf checks refusal = IsFirstFailing checks refusal
+
+-- the call answers a refusal exactly where one of its checks fails, that of the first such check, or want of memory
+abbrev pub Tests : {T : Type 0} → List Check → Result T Refusal → Type 0
+Tests checks result = MatchResult result (λ _. All Passes checks) (IsRefusalOf checks)
+
+-- the checks of a rule of room
+abbrev pub room_checks : List Need → List Check
+room_checks needs = map (λ need. Room need) needs
