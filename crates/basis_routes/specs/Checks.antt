@@ -40,10 +40,9 @@ IsFirstFailing [] refusal = ⊥
 IsFirstFailing (check ∷ checks) refusal =
     ((refusal ≡ refusal_of check) × (Passes check → ⊥)) ⊎ (Passes check × IsFirstFailing checks refusal)
 
--- a refusal of a call with these checks: want of memory may come at any time
+-- a refusal of a call with these checks; want of memory may come at any time
 abbrev pub IsRefusalOf : List Check → Refusal → Type 0
-IsRefusalOf checks Memory = Unit {0}
-IsRefusalOf checks refusal = IsFirstFailing checks refusal
+IsRefusalOf checks refusal = (refusal ≡ Memory) ⊎ IsFirstFailing checks refusal
 
 -- the call answers a refusal exactly where one of its checks fails, that of the first such check, or want of memory
 abbrev pub Tests : {T : Type 0} → List Check → Result T Refusal → Type 0

@@ -40,5 +40,6 @@ degree_of_value v = greatest_degree (rows_of v.bases) v.combination.terms
 
 -- the value over these bases that reads so at every tuple of points; by the law of uniqueness there is at most one
 pub record Expands (bases : List BasisId) (reading : Reading) (v : Expansion) : Type 0 where
+  pub value : IsValue v
   pub over : v.bases ≡ bases
   pub reads : (ps : List (List ℕ)) → length ps ≡ length bases → AgreeAt (reading_of v) reading ps

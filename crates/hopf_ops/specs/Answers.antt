@@ -1,0 +1,24 @@
+-- From combinations to values.
+use Rattle.std.specs.Prelude.{◌≡◌, ℕ, ◌≤◌, List, length, Result, Ok, Err}
+use Rattle.linear_combos.specs.Combos.{Combination, HasKey}
+use Rattle.linear_combos.specs.Indices.{AreIndices, total_degree}
+use Rattle.linear_combos.specs.declared.combo.ComboFault.{ComboFault}
+use Rattle.linear_combos.specs.declared.combo.ComboFault.TheVariants.{TooLarge, Memory}
+use Rattle.hopf_laws.specs.declared.bases.BasisId.{BasisId}
+use Rattle.hopf_laws.specs.Bases.{rows_of, least_limit}
+use Rattle.hopf_laws.specs.Values.{Expansion}
+use Rattle.basis_routes.specs.declared.refusal.Refusal.{Refusal}
+use Rattle.basis_routes.specs.declared.refusal.Refusal.TheVariants.{TooLarge as refused_too_large, Memory as refused_memory}
+
+-- all that a canonical combination owes to be a value over these bases
+pub record IsOver (bases : List BasisId) (c : Combination) : Type 0 where
+  pub short : length bases ≤ 3
+  pub rank : c.rank ≡ length bases
+  pub indices : (key : List (List ℕ)) → HasKey c.terms key → AreIndices (rows_of bases) key
+  pub degrees : (key : List (List ℕ)) → HasKey c.terms key → total_degree (rows_of bases) key ≤ least_limit bases
+
+-- a combination becomes the value over the bases, and a fault the refusal of its name
+abbrev pub IsAnswerOver : List BasisId → Result Combination ComboFault → Result Expansion Refusal → Type 0
+IsAnswerOver bases (Ok c) result = result ≡ Ok (record { bases = bases; combination = c })
+IsAnswerOver bases (Err (TooLarge need)) result = result ≡ Err (refused_too_large need)
+IsAnswerOver bases (Err Memory) result = result ≡ Err refused_memory

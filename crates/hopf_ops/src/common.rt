@@ -1,0 +1,42 @@
+//! What operations on two values have in common.
+ghost use Rattle.std.specs.Prelude.{◌≡◌, IfOk};
+ghost use Rattle.hopf_laws.specs.Values.{IsValue};
+ghost use Rattle.basis_routes.specs.Checks.{Tests};
+ghost use Rattle.basis_routes.specs.Joins.{joined};
+ghost use Rattle.hopf_ops.specs.Operations.{common_checks};
+ghost use Rattle.hopf_ops.specs.Answers.{IsOver, IsAnswerOver};
+
+use basis_routes::{Bases, Check, Refusal, Value};
+use linear_combos::{Combo, ComboFault};
+
+// The joined bases of two values of one rank, where a degree is within their limit.
+pub(crate) fn common_bases(a: &Value, b: &Value, degree: u32) -> Result<Bases, Refusal>
+    ensures checks { Tests (common_checks degree a.now b.now) result }
+    ensures value { IfOk result (λ bases. bases ≡ joined a.now.bases b.now.bases) }
+{
+    Check::SameRank {
+        left: a.rank(),
+        right: b.rank(),
+    }
+    .test()?;
+    let bases = a.bases().joined(b.bases())?;
+    Check::DegreeWithin {
+        degree,
+        limit: bases.least_limit(),
+    }
+    .test()?;
+    Ok(bases)
+}
+
+// The combination over these bases, or the refusal that its fault is.
+pub(crate) fn over_bases(bases: Bases, combo: Result<Combo, ComboFault>) -> Result<Value, Refusal>
+    requires { IfOk combo (IsOver bases) }
+    ensures answer { IsAnswerOver bases combo result }
+    ensures value { IfOk result IsValue }
+{
+    match combo {
+        Ok(combo) => Ok(Value::over(bases, combo)),
+        Err(ComboFault::TooLarge(need)) => Err(Refusal::TooLarge(need)),
+        Err(ComboFault::Memory) => Err(Refusal::Memory),
+    }
+}

@@ -1,0 +1,10 @@
+//! Operations on values, each with its row of checks.
+//!
+//! Its `specs/` say for each operation what it checks of its operands, in order, over which bases its
+//! answer stands and what the answer reads as.
+#![tactic(auto)]
+
+mod common;
+mod sums;
+
+pub use sums::{add, negate};
