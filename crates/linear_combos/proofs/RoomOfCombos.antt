@@ -1,6 +1,5 @@
--- The room of sums and products of combinations, tested need by need.
-use Rattle.std.proofs.Common.{◌≡◌, List, [], ◌∷◌, Result, Ok, Err, inl, inr, refl, sym, subst, arith}
-use Rattle.std.specs.Prelude.{All}
+-- The room of sums and multiples of combinations, tested need by need.
+use Rattle.std.proofs.Common.{◌≡◌, List, ◌∷◌, Result, Ok, Err, inl, inr, refl, sym, subst}
 use Rattle.std.proofs.lemmas.List.Elements.{All-cons}
 use Rattle.hopf_num.specs.Room.{HasRoom}
 use Rattle.hopf_num.specs.declared.room.Need.{Need}
@@ -13,7 +12,7 @@ pub fault_first : (need : Need) (needs : List Need) (fault : ComboFault) → (fa
 fault_first need needs fault tested = subst (IsFaultOf (need ∷ needs)) (sym tested.0) (inl (refl, tested.1))
 
 -- after a need with room the others decide
-pub fault_later : (need : Need) (needs : List Need) (fault : ComboFault) → HasRoom need → IsFaultOf needs fault → IsFaultOf (need ∷ needs) fault
+fault_later : (need : Need) (needs : List Need) (fault : ComboFault) → HasRoom need → IsFaultOf needs fault → IsFaultOf (need ∷ needs) fault
 fault_later need needs (TooLarge told) room first = inr (room, first)
 fault_later need needs Memory room all = All-cons HasRoom need needs room all
 
@@ -21,7 +20,3 @@ fault_later need needs Memory room all = All-cons HasRoom need needs room all
 pub tests_later : {T : Type 0} (need : Need) (needs : List Need) (result : Result T ComboFault) → HasRoom need → TestsRoom needs result → TestsRoom (need ∷ needs) result
 tests_later need needs (Ok value) room all = All-cons HasRoom need needs room all
 tests_later need needs (Err fault) room is = fault_later need needs fault room is
-
--- two needs with room
-pub both_have_room : (first second : Need) → HasRoom first → HasRoom second → All HasRoom (first ∷ second ∷ [])
-both_have_room first second p q = All-cons HasRoom first (second ∷ []) p (All-cons HasRoom second [] q (λ k d lt. absurd (omega arith)))

@@ -5,6 +5,7 @@ use Rattle.std.proofs.lemmas.Int.{to_z-of_z}
 use Rattle.std.proofs.lemmas.List.{get_or_default}
 use Rattle.hopf_num.proofs.SumsOfProducts.{abs_sum}
 use Rattle.linear_combos.specs.Combos.{term_at, IsGapFor}
+use Rattle.linear_combos.proofs.Numerals.{scaled_is}
 use Rattle.linear_combos.proofs.Merging.{IsMerged-turned, left_gap, left_room, left_added, both_room, both_added}
 use Rattle.linear_combos.proofs.merge.merge_step.Goals as goal
 
@@ -15,15 +16,13 @@ scaled-num-requires-clause-room c =
 
 pub push-requires-clause-room : goal.push-requires-clause-room
 push-requires-clause-room c =
-    let factor = to_z-of_z w128 c.args.left_factor c.ranges.left_factor in
-    let num = to_z-of_z w128 c.scaled-num.result (record { sfits = c.scaled-num.type_inv }) ∙ c.scaled-num.ensures ∙ ap (λ z. (term_at c.args.left.now c.args.at.0).0 *ℤ z) factor in
+    let num = scaled_is c.scaled-num.result (term_at c.args.left.now c.args.at.0).0 c.args.left_factor (record { sfits = c.scaled-num.type_inv }) c.ranges.left_factor c.scaled-num.ensures in
     rw num (left_room _ c.args.left_factor _ c.args.right_factor _ _ _ c.requires.merged c.requires.room c.in-Less.ensures.0)
 
 pub returns-in_ok-push-in-Less-clause-merged : goal.returns-in_ok-push-in-Less-clause-merged
 returns-in_ok-push-in-Less-clause-merged c =
     let here = c.in-Less.ensures.0 in
-    let factor = to_z-of_z w128 c.args.left_factor c.ranges.left_factor in
-    let num = to_z-of_z w128 c.scaled-num.result (record { sfits = c.scaled-num.type_inv }) ∙ c.scaled-num.ensures ∙ ap (λ z. (term_at c.args.left.now c.args.at.0).0 *ℤ z) factor in
+    let num = scaled_is c.scaled-num.result (term_at c.args.left.now c.args.at.0).0 c.args.left_factor (record { sfits = c.scaled-num.type_inv }) c.ranges.left_factor c.scaled-num.ensures in
     let key = c.copy.ensures ∙ ap (λ t. t.1) (get_or_default c.args.left.now c.args.at.0 c.index-left-i.result (pos 0, []) here) in
     left_added c.args.left.now c.args.left_factor c.args.right.now c.args.right_factor c.args.at.0 c.args.at.1 c.args.sum.now.terms c.requires.merged c.requires.room here
     c.push.new.self.terms _ _ c.in-Less.ensures.1 c.requires.left.rising num key c.in_ok-push-in-Less.ensures.adds c.push.ensures.norm
@@ -37,18 +36,14 @@ scaled-num-requires-in-Greater-clause-room c =
 pub push-requires-in-Greater-clause-room : goal.push-requires-in-Greater-clause-room
 push-requires-in-Greater-clause-room c =
     let turned = IsMerged-turned _ _ _ _ _ _ _ c.requires.merged in
-    let factor = to_z-of_z w128 c.args.right_factor c.ranges.right_factor in
-    let num = to_z-of_z w128 c.scaled-num-in-Greater.result (record { sfits = c.scaled-num-in-Greater.type_inv }) ∙ c.scaled-num-in-Greater.ensures
-    ∙ ap (λ z. (term_at c.args.right.now c.args.at.1).0 *ℤ z) factor in
+    let num = scaled_is c.scaled-num-in-Greater.result (term_at c.args.right.now c.args.at.1).0 c.args.right_factor (record { sfits = c.scaled-num-in-Greater.type_inv }) c.ranges.right_factor c.scaled-num-in-Greater.ensures in
     rw num (left_room _ c.args.right_factor _ c.args.left_factor _ _ _ turned (omega (arith, c.requires.room)) c.in-Greater.ensures.0)
 
 pub returns-in_ok-push-in-Greater-clause-merged : goal.returns-in_ok-push-in-Greater-clause-merged
 returns-in_ok-push-in-Greater-clause-merged c =
     let there = c.in-Greater.ensures.0 in
     let turned = IsMerged-turned _ _ _ _ _ _ _ c.requires.merged in
-    let factor = to_z-of_z w128 c.args.right_factor c.ranges.right_factor in
-    let num = to_z-of_z w128 c.scaled-num-in-Greater.result (record { sfits = c.scaled-num-in-Greater.type_inv }) ∙ c.scaled-num-in-Greater.ensures
-    ∙ ap (λ z. (term_at c.args.right.now c.args.at.1).0 *ℤ z) factor in
+    let num = scaled_is c.scaled-num-in-Greater.result (term_at c.args.right.now c.args.at.1).0 c.args.right_factor (record { sfits = c.scaled-num-in-Greater.type_inv }) c.ranges.right_factor c.scaled-num-in-Greater.ensures in
     let key = c.copy-in-Greater.ensures ∙ ap (λ t. t.1) (get_or_default c.args.right.now c.args.at.1 c.index-right-j.result (pos 0, []) there) in
     IsMerged-turned _ _ _ _ _ _ _
     (left_added c.args.right.now c.args.right_factor c.args.left.now c.args.left_factor c.args.at.1 c.args.at.0 c.args.sum.now.terms turned (omega (arith, c.requires.room)) there
@@ -67,10 +62,8 @@ scaled-requires-in-Equal-clause-room c =
 
 pub total-num-requires : goal.total-num-requires
 total-num-requires c =
-    let left = to_z-of_z w128 c.scaled.result (record { sfits = c.scaled.type_inv }) ∙ c.scaled.ensures
-    ∙ ap (λ z. (term_at c.args.left.now c.args.at.0).0 *ℤ z) (to_z-of_z w128 c.args.left_factor c.ranges.left_factor) in
-    let right = to_z-of_z w128 c.scaled-in-Equal.result (record { sfits = c.scaled-in-Equal.type_inv }) ∙ c.scaled-in-Equal.ensures
-    ∙ ap (λ z. (term_at c.args.right.now c.args.at.1).0 *ℤ z) (to_z-of_z w128 c.args.right_factor c.ranges.right_factor) in
+    let left = scaled_is c.scaled.result (term_at c.args.left.now c.args.at.0).0 c.args.left_factor (record { sfits = c.scaled.type_inv }) c.ranges.left_factor c.scaled.ensures in
+    let right = scaled_is c.scaled-in-Equal.result (term_at c.args.right.now c.args.at.1).0 c.args.right_factor (record { sfits = c.scaled-in-Equal.type_inv }) c.ranges.right_factor c.scaled-in-Equal.ensures in
     let room = both_room _ c.args.left_factor _ c.args.right_factor _ _ _ c.requires.merged c.requires.room c.in-Equal.ensures.0 c.in-Equal.ensures.1 in
     rw (left, right) (omega (arith, room))
 
@@ -83,10 +76,8 @@ push-requires-in-Equal-clause-last c =
 
 pub push-requires-in-Equal-clause-room : goal.push-requires-in-Equal-clause-room
 push-requires-in-Equal-clause-room c =
-    let left = to_z-of_z w128 c.scaled.result (record { sfits = c.scaled.type_inv }) ∙ c.scaled.ensures
-    ∙ ap (λ z. (term_at c.args.left.now c.args.at.0).0 *ℤ z) (to_z-of_z w128 c.args.left_factor c.ranges.left_factor) in
-    let right = to_z-of_z w128 c.scaled-in-Equal.result (record { sfits = c.scaled-in-Equal.type_inv }) ∙ c.scaled-in-Equal.ensures
-    ∙ ap (λ z. (term_at c.args.right.now c.args.at.1).0 *ℤ z) (to_z-of_z w128 c.args.right_factor c.ranges.right_factor) in
+    let left = scaled_is c.scaled.result (term_at c.args.left.now c.args.at.0).0 c.args.left_factor (record { sfits = c.scaled.type_inv }) c.ranges.left_factor c.scaled.ensures in
+    let right = scaled_is c.scaled-in-Equal.result (term_at c.args.right.now c.args.at.1).0 c.args.right_factor (record { sfits = c.scaled-in-Equal.type_inv }) c.ranges.right_factor c.scaled-in-Equal.ensures in
     let num = to_z-of_z w128 c.total-num.result (record { sfits = c.total-num.type_inv }) ∙ c.total-num.ensures ∙ ap (λ z. z +ℤ to_z w128 (of_z w128 c.scaled-in-Equal.result)) left
     ∙ ap (λ z. (term_at c.args.left.now c.args.at.0).0 *ℤ c.args.left_factor +ℤ z) right in
     let room = both_room _ c.args.left_factor _ c.args.right_factor _ _ _ c.requires.merged c.requires.room c.in-Equal.ensures.0 c.in-Equal.ensures.1 in
@@ -97,10 +88,8 @@ pub returns-in_ok-push-in-Equal-clause-merged : goal.returns-in_ok-push-in-Equal
 returns-in_ok-push-in-Equal-clause-merged c =
     let here = c.in-Equal.ensures.0 in
     let there = c.in-Equal.ensures.1 in
-    let left = to_z-of_z w128 c.scaled.result (record { sfits = c.scaled.type_inv }) ∙ c.scaled.ensures
-    ∙ ap (λ z. (term_at c.args.left.now c.args.at.0).0 *ℤ z) (to_z-of_z w128 c.args.left_factor c.ranges.left_factor) in
-    let right = to_z-of_z w128 c.scaled-in-Equal.result (record { sfits = c.scaled-in-Equal.type_inv }) ∙ c.scaled-in-Equal.ensures
-    ∙ ap (λ z. (term_at c.args.right.now c.args.at.1).0 *ℤ z) (to_z-of_z w128 c.args.right_factor c.ranges.right_factor) in
+    let left = scaled_is c.scaled.result (term_at c.args.left.now c.args.at.0).0 c.args.left_factor (record { sfits = c.scaled.type_inv }) c.ranges.left_factor c.scaled.ensures in
+    let right = scaled_is c.scaled-in-Equal.result (term_at c.args.right.now c.args.at.1).0 c.args.right_factor (record { sfits = c.scaled-in-Equal.type_inv }) c.ranges.right_factor c.scaled-in-Equal.ensures in
     let num = to_z-of_z w128 c.total-num.result (record { sfits = c.total-num.type_inv }) ∙ c.total-num.ensures ∙ ap (λ z. z +ℤ to_z w128 (of_z w128 c.scaled-in-Equal.result)) left
     ∙ ap (λ z. (term_at c.args.left.now c.args.at.0).0 *ℤ c.args.left_factor +ℤ z) right in
     let key = c.copy-in-Equal.ensures ∙ ap (λ t. t.1) (get_or_default c.args.left.now c.args.at.0 c.index-left-i-in-Equal.result (pos 0, []) here) in
