@@ -1,4 +1,4 @@
-use Rattle.std.proofs.Common.{◌≡◌, [], ◌∷◌, length, rules}
+use Rattle.std.proofs.Common.{◌≡◌, [], ◌∷◌, ◌++◌, length, rules}
 use Rattle.std.specs.Prelude.{All}
 use Rattle.std.proofs.lemmas.Result.{err_from_is_err_and}
 use Rattle.hopf_laws.specs.Bases.{least_limit}
@@ -11,14 +11,22 @@ use Rattle.hopf_ops.proofs.common.common_bases.Goals as goal
 pub returns-in_err-bases-clause-checks : goal.returns-in_err-bases-clause-checks
 returns-in_err-bases-clause-checks c =
     let p = err_from_is_err_and c.from_residual-in_err-bases.result c.from_residual-in_err-bases.ensures.1 in
-    let ranks : All Passes (SameRank (length c.args.a.now.bases) (length c.args.b.now.bases) ∷ []) = search rules in
-    let joins : IsRefusalOf (join_checks c.args.a.now.bases c.args.b.now.bases) c.in_err-bases.field-0.0 = search rules in
-    rw (p.1, p.2) (refused_back _ _ _ ranks (refused_front _ _ _ joins))
+    let a = c.args.a.now.bases in
+    let b = c.args.b.now.bases in
+    let rank = SameRank (length a) (length b) ∷ [] in
+    let degree = DegreeWithin c.args.degree (least_limit (joined a b)) ∷ [] in
+    let ranks : All Passes rank = search rules in
+    let joins : IsRefusalOf (join_checks a b) c.in_err-bases.field-0.0 = search rules in
+    rw (p.1, p.2) (refused_back rank (join_checks a b ++ degree) c.in_err-bases.field-0.0 ranks (refused_front (join_checks a b) degree c.in_err-bases.field-0.0 joins))
 
 pub returns-in_err-test-2-clause-checks : goal.returns-in_err-test-2-clause-checks
 returns-in_err-test-2-clause-checks c =
     let p = err_from_is_err_and c.from_residual-in_err-test-2.result c.from_residual-in_err-test-2.ensures.1 in
-    let ranks : All Passes (SameRank (length c.args.a.now.bases) (length c.args.b.now.bases) ∷ []) = search rules in
-    let joins : All Passes (join_checks c.args.a.now.bases c.args.b.now.bases) = search rules in
-    let degree : IsRefusalOf (DegreeWithin c.args.degree (least_limit (joined c.args.a.now.bases c.args.b.now.bases)) ∷ []) c.in_err-test-2.field-0.0 = search rules in
-    rw (p.1, p.2) (refused_back _ _ _ ranks (refused_back _ _ _ joins degree))
+    let a = c.args.a.now.bases in
+    let b = c.args.b.now.bases in
+    let rank = SameRank (length a) (length b) ∷ [] in
+    let degree = DegreeWithin c.args.degree (least_limit (joined a b)) ∷ [] in
+    let ranks : All Passes rank = search rules in
+    let joins : All Passes (join_checks a b) = search rules in
+    let past : IsRefusalOf degree c.in_err-test-2.field-0.0 = search rules in
+    rw (p.1, p.2) (refused_back rank (join_checks a b ++ degree) c.in_err-test-2.field-0.0 ranks (refused_back (join_checks a b) degree c.in_err-test-2.field-0.0 joins past))
