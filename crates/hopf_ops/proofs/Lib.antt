@@ -1,2 +1,3 @@
+pub mod MultiplesOfValues
 pub mod Rooms
 pub mod SumsOfValues

@@ -9,7 +9,11 @@ use Rattle.hopf_laws.specs.declared.bases.BasisId.{BasisId}
 use Rattle.hopf_laws.specs.declared.bases.BasisId.TheVariants.{QsymM}
 use Rattle.hopf_laws.specs.Bases.{rows_of, least_limit}
 use Rattle.hopf_laws.specs.Values.{Expansion, IsValue, reading_of}
+use Rattle.std.specs.Prelude.{All}
+use Rattle.basis_routes.specs.declared.checks.Check.TheVariants.{SameRank}
+use Rattle.basis_routes.specs.Checks.{Passes}
 use Rattle.basis_routes.specs.Joins.{joined}
+use Rattle.hopf_ops.specs.Operations.{common_checks}
 use Rattle.hopf_ops.specs.Answers.{IsOver}
 
 -- while there is one basis, lists of one length are the same, and so are their joins
@@ -54,3 +58,7 @@ sum_reads a b c long is ps =
     (subst (λ bases. AgreeAt (leaf (rows_of a.bases) c.den c.terms) (sum_of (reading_of a) (leaf (rows_of bases) b.combination.den b.combination.terms)) ps) same
     (ap (λ z. numerator (leaf (rows_of a.bases) c.den c.terms) ps *ℤ z) (sym (pos-*ℤ-pos a.combination.den b.combination.den))
     ∙ is.weighs (λ key. pos (occurrence (rows_of a.bases) key ps))))
+
+-- two values that pass their common checks have one rank
+pub same_rank : (degree : ℕ) (a b : Expansion) → All Passes (common_checks degree a b) → length a.bases ≡ length b.bases
+same_rank degree a b pass = pass 0 (SameRank 0 0) (omega arith)

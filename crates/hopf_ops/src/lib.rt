@@ -5,6 +5,8 @@
 #![tactic(auto)]
 
 mod common;
+mod multiples;
 mod sums;
 
-pub use sums::{add, negate};
+pub use multiples::{divide, negate};
+pub use sums::add;

@@ -1,15 +1,14 @@
 //! Sums, differences and negation.
-ghost use Rattle.std.specs.Prelude.{◌≡◌, ℕ, [], max, IfOk};
+ghost use Rattle.std.specs.Prelude.{◌≡◌, ℕ, max, IfOk};
 ghost use Rattle.hopf_num.specs.Divisors.{IsLcm};
 ghost use Rattle.linear_combos.specs.Readings.{sum_of};
 ghost use Rattle.hopf_laws.specs.Values.{Expands, reading_of};
 ghost use Rattle.basis_routes.specs.Checks.{Tests};
 ghost use Rattle.basis_routes.specs.Joins.{joined};
-ghost use Rattle.hopf_ops.specs.Operations.{sum_checks, negation_of, difference_of};
+ghost use Rattle.hopf_ops.specs.Operations.{sum_checks};
 
 use crate::common::{common_bases, over_bases};
 use basis_routes::{Refusal, Value};
-use hopf_num::Fraction;
 use linear_combos::Combo;
 use std::alloc::Global;
 
@@ -24,13 +23,4 @@ pub fn add(alloc: Global, a: &Value, b: &Value) -> Result<Value, Refusal>
 {
     let bases = common_bases(a, b, a.degree().max(b.degree()))?;
     over_bases(bases, Combo::plus(alloc, a.combo(), b.combo()))
-}
-
-/// The value with the other sign. Want of memory is its only refusal. The cost is one pass.
-pub fn negate(alloc: Global, a: &Value) -> Result<Value, Refusal>
-    ensures checks { Tests [] result }
-    ensures value { IfOk result (Expands a.now.bases (negation_of a.now)) }
-{
-    let minus_one = Fraction::new(-1, 1).unwrap();
-    over_bases(a.bases().copy(), Combo::scale(alloc, a.combo(), &minus_one))
 }

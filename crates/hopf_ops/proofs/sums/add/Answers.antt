@@ -1,24 +1,58 @@
-use Rattle.std.proofs.Common.{rules, ◌≡◌, ℕ, [], max, IfOk, ◌+◌, ◌-◌, ◌*◌, ◌<◌, ◌≤◌, length, ◌/◌, ◌%◌, Bool, true, false, nat_eq, nat_lt, List, ◌∷◌, ◌++◌, slice_index_or, slice_set, bit_and, bit_or, Fits, w8, w32, w64, Bor, MutBor}
+use Rattle.std.proofs.Common.{◌≡◌, ℕ, subst, max, length, rules}
+use Rattle.std.specs.Prelude.{All, IfOk}
+use Rattle.std.proofs.lemmas.Result.{IfOk-weaker, err_from_is_err_and}
 use Rattle.hopf_num.specs.Divisors.{IsLcm}
+use Rattle.hopf_num.specs.Room.{sum_rule}
+use Rattle.linear_combos.specs.Faults.{TestsRoom}
+use Rattle.linear_combos.specs.Combos.{Combination, IsSum, norm_of}
 use Rattle.linear_combos.specs.Readings.{sum_of}
-use Rattle.hopf_laws.specs.Values.{Expands, reading_of}
-use Rattle.basis_routes.specs.Checks.{Tests}
+use Rattle.hopf_laws.specs.Values.{Expands, reading_of, degree_of_value}
+use Rattle.basis_routes.specs.Checks.{Passes, IsRefusalOf, Tests, room_checks}
 use Rattle.basis_routes.specs.Joins.{joined}
-use Rattle.hopf_ops.specs.Operations.{sum_checks, negation_of, difference_of}
+use Rattle.basis_routes.proofs.Rows.{refused_front, tests_back}
+use Rattle.hopf_ops.specs.Answers.{IsOver, IsAnswerOver}
+use Rattle.hopf_ops.specs.Operations.{common_checks, sum_checks}
+use Rattle.hopf_ops.proofs.Rooms.{answer_tests_room, answer_expands}
+use Rattle.hopf_ops.proofs.SumsOfValues.{same_rank, sum_over, sum_reads}
 use Rattle.hopf_ops.proofs.sums.add.Goals as goal
 
--- src/sums.rt:25:17
 pub returns-in_err-bases-clause-checks : goal.returns-in_err-bases-clause-checks
-returns-in_err-bases-clause-checks c = ?
+returns-in_err-bases-clause-checks c = λ m is.
+    let p = err_from_is_err_and c.from_residual.result c.from_residual.ensures.1 in
+    let a = c.args.a.now in
+    let b = c.args.b.now in
+    let refused : IsRefusalOf (common_checks (max (degree_of_value a) (degree_of_value b)) a b) c.in_err-bases.field-0.0 = search rules in
+    rw (p.1, p.2) (refused_front (common_checks (max (degree_of_value a) (degree_of_value b)) a b) (room_checks (sum_rule m a.combination.den b.combination.den (norm_of a.combination.terms) (norm_of b.combination.terms))) c.in_err-bases.field-0.0 refused)
 
--- src/sums.rt:26:5
 pub over_bases-requires : goal.over_bases-requires
-over_bases-requires c = ?
+over_bases-requires c =
+    let a = c.args.a.now in
+    let b = c.args.b.now in
+    let pass : All Passes (common_checks (max (degree_of_value a) (degree_of_value b)) a b) = search rules in
+    let sum : IfOk c.plus.result (IsSum a.combination b.combination) = rw (← c.combo.ensures.combination, ← c.combo-2.ensures.combination) c.plus.ensures.sum in
+    rw c.in_ok-bases.ensures.value (IfOk-weaker c.plus.result (IsSum a.combination b.combination) (IsOver (joined a.bases b.bases))
+    (λ s is. sum_over a b s c.combo.ensures.value c.combo-2.ensures.value (same_rank _ a b pass) is) sum)
 
--- src/sums.rt:21:1
 pub returns-clause-checks : goal.returns-clause-checks
-returns-clause-checks c = ?
+returns-clause-checks c = λ m is.
+    let a = c.args.a.now in
+    let b = c.args.b.now in
+    let common = common_checks (max (degree_of_value a) (degree_of_value b)) a b in
+    let pass : All Passes common = search rules in
+    let needs = sum_rule m a.combination.den b.combination.den (norm_of a.combination.terms) (norm_of b.combination.terms) in
+    let left = c.combo.result.now in
+    let room =
+    subst (λ (x : Combination). (n : ℕ) → IsLcm x.den b.combination.den n → TestsRoom (sum_rule n x.den b.combination.den (norm_of x.terms) (norm_of b.combination.terms)) c.plus.result) c.combo.ensures.combination
+    (subst (λ (y : Combination). (n : ℕ) → IsLcm left.den y.den n → TestsRoom (sum_rule n left.den y.den (norm_of left.terms) (norm_of y.terms)) c.plus.result) c.combo-2.ensures.combination c.plus.ensures.room) in
+    tests_back common (room_checks needs) c.over_bases.result pass
+    (answer_tests_room c.in_ok-bases.bases needs c.plus.result c.over_bases.result (room m is) c.over_bases.ensures.answer)
 
--- src/sums.rt:21:1
 pub returns-clause-value : goal.returns-clause-value
-returns-clause-value c = ?
+returns-clause-value c =
+    let a = c.args.a.now in
+    let b = c.args.b.now in
+    let pass : All Passes (common_checks (max (degree_of_value a) (degree_of_value b)) a b) = search rules in
+    let sum : IfOk c.plus.result (IsSum a.combination b.combination) = rw (← c.combo.ensures.combination, ← c.combo-2.ensures.combination) c.plus.ensures.sum in
+    answer_expands (IsSum a.combination b.combination) (joined a.bases b.bases) (sum_of (reading_of a) (reading_of b)) c.plus.result c.over_bases.result
+    (subst (λ bases. IsAnswerOver bases c.plus.result c.over_bases.result) c.in_ok-bases.ensures.value c.over_bases.ensures.answer) sum c.over_bases.ensures.value
+    (λ s is. sum_reads a b s (same_rank _ a b pass) is)

@@ -1,0 +1,44 @@
+//! Negation, and the quotient by a scalar.
+ghost use Rattle.std.specs.Prelude.{◌≡◌, negsuc, [], IfOk};
+ghost use Rattle.hopf_laws.specs.Values.{Expands};
+ghost use Rattle.basis_routes.specs.Checks.{Tests};
+ghost use Rattle.hopf_ops.specs.Operations.{negation_of, quotient_checks, quotient_of};
+
+use crate::common::over_bases;
+use basis_routes::{Check, Refusal, Value};
+use hopf_num::Fraction;
+use linear_combos::Combo;
+use std::alloc::Global;
+
+/// The value with the other sign. Want of memory is its only refusal. The cost is one pass.
+pub fn negate(alloc: Global, a: &Value) -> Result<Value, Refusal>
+    ensures checks { Tests [] result }
+    ensures value { IfOk result (Expands a.now.bases (negation_of a.now)) }
+{
+    over_bases(a.bases().copy(), Combo::scale(alloc, a.combo(), &minus_one()))
+}
+
+// The fraction -1.
+fn minus_one() -> Fraction
+    ensures { result ≡ record { num = negsuc 0; den = 1 } }
+{
+    Fraction::new(-1, 1).unwrap()
+}
+
+/// The quotient by a scalar.
+///
+/// Its checks, in order: the divisor is a scalar (`NotScalar`) and not 0 (`ZeroDivisor`), and the
+/// product with its reciprocal has room (`TooLarge`). The cost is one pass.
+pub fn divide(alloc: Global, a: &Value, b: &Value) -> Result<Value, Refusal>
+    ensures checks { Tests (quotient_checks a.now b.now) result }
+    ensures value { IfOk result (Expands a.now.bases (quotient_of a.now b.now)) }
+{
+    let Some(divisor) = b.as_fraction() else {
+        return Err(Refusal::NotScalar);
+    };
+    Check::Nonzero { num: divisor.num() }.test()?;
+    over_bases(
+        a.bases().copy(),
+        Combo::scale(alloc, a.combo(), &divisor.recip()),
+    )
+}
