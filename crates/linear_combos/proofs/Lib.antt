@@ -17,5 +17,6 @@ pub mod RisingMaps
 pub mod RoomOfCombos
 pub mod Sums
 pub mod SumsOfCombos
+pub mod Tensors
 pub mod Uniqueness
 pub mod Weights

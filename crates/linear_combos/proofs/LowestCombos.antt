@@ -5,7 +5,7 @@ use Rattle.std.proofs.Math.Nat.{one-dvd, mul-div_cancel', mul-dvd-mul_left, dvd_
 use Rattle.std.specs.Int.{◌∣◌, IsGcd}
 use Rattle.std.specs.List.{insert}
 use Rattle.std.proofs.lemmas.Int.{ints}
-use Rattle.std.proofs.lemmas.Nat.Gcd.{dvd_trans, le_of_dvd}
+use Rattle.std.proofs.lemmas.Nat.Gcd.{dvd_refl, dvd_trans, le_of_dvd}
 use Rattle.std.proofs.lemmas.List.{take_all, drop_all, length_push, get_or_push, get_or_append_left, get_or-map, get_or_default, length-map, length-append, length-take-le, length-drop}
 use Rattle.std.proofs.lemmas.List.Edits.{map_over_more}
 use Rattle.std.proofs.lemmas.List.Sums.{sum_by-cons, sum_by-insert}
@@ -24,8 +24,12 @@ push-insert ts n key = simp (take_all (length ts) ts (omega arith), drop_all (le
 pub times_turned : (a b c : ℤ) → (a *ℤ b) *ℤ c ≡ (a *ℤ c) *ℤ b
 times_turned a b c = sym (*ℤ_assoc a b c) ∙ ap (λ z. a *ℤ z) (*ℤ_comm b c) ∙ *ℤ_assoc a c b
 
+-- before the first numerator the denominator is the common divisor
+pub IsCommon-none : (den : ℕ) → IsCommon den [] den
+IsCommon-none den = record { divides_den = dvd_refl den; divides = λ i lt. absurd (omega arith); greatest = λ d p each. p }
+
 -- the common divisor with one numerator more
-IsCommon-push : (den : ℕ) (ts : Terms) (n : ℤ) (key : List (List ℕ)) (g h : ℕ) → IsCommon den ts g → IsGcd (unsigned_abs n) g h
+pub IsCommon-push : (den : ℕ) (ts : Terms) (n : ℤ) (key : List (List ℕ)) (g h : ℕ) → IsCommon den ts g → IsGcd (unsigned_abs n) g h
     → IsCommon den (ts ++ (n, key) ∷ []) h
 IsCommon-push den ts n key g h old is = record {
   divides_den = dvd_trans h is.1 old.divides_den;
@@ -68,6 +72,13 @@ norm-quotients g (t ∷ ts) each =
     let left = sum_by-cons (λ (u : ℤ × List (List ℕ)). unsigned_abs u.0) (int_div t.0 (pos g), t.1) (quotients g ts) in
     let right = sum_by-cons (λ (u : ℤ × List (List ℕ)). unsigned_abs u.0) t ts in
     omega (arith, ap (λ n. g * n) left, ap (λ n. g * n) size, head, tail, right)
+
+-- so the norm of the quotients is no larger
+norm-quotients-le : (g : ℕ) (ts : Terms) → 1 ≤ g → AreMultiples g ts → norm_of (quotients g ts) ≤ norm_of ts
+norm-quotients-le g ts positive each =
+    let whole : g * norm_of (quotients g ts) ≡ norm_of ts = norm-quotients g ts each in
+    let below : 1 * norm_of (quotients g ts) ≤ g * norm_of (quotients g ts) = mul-le-mul_right (norm_of (quotients g ts)) positive in
+    omega (arith, whole, below)
 
 -- the quotients weigh the g-th part
 weighed-quotients : (w : List (List ℕ) → ℤ) (g : ℕ) (ts : Terms) → AreMultiples g ts → weighed w (quotients g ts) *ℤ pos g ≡ weighed w ts
@@ -125,10 +136,7 @@ module _ (g : ℕ) (ts : Terms) (positive : 1 ≤ g) (each : AreMultiples g ts) 
             ∙ ap (key_cmp ((term_at ts i).1)) (key-quotients j (omega arith)) ∙ old.rising i j less (omega arith);
         nonzero = λ i lt. nonzero-quotients i (omega arith) (old.nonzero i (omega arith));
         ranks = λ i lt. ap length (key-quotients i (omega arith)) ∙ old.ranks i (omega arith);
-        small =
-            let whole : g * norm_of (quotients g ts) ≡ norm_of ts = norm-quotients g ts each in
-            let below : 1 * norm_of (quotients g ts) ≤ g * norm_of (quotients g ts) = mul-le-mul_right (norm_of (quotients g ts)) positive in
-            omega (arith, whole, below, old.small);
+        small = omega (arith, norm-quotients-le g ts positive each, old.small);
       }
 
   -- no new key
@@ -196,4 +204,6 @@ IsOver-quotients r den ts norm g is =
           ap (λ n. weighed w (quotients g ts) *ℤ pos n) (sym whole) ∙ ap (λ z. weighed w (quotients g ts) *ℤ z) (sym (pos-*ℤ-pos g (den / g)))
           ∙ *ℤ_assoc (weighed w (quotients g ts)) (pos g) (pos (den / g)) ∙ ap (λ z. z *ℤ pos (den / g)) (weighed-quotients w g ts each);
       keys = keys-quotients g ts some each;
+      den_within = div-le_self den g;
+      norm_within = norm-quotients-le g ts some each;
     }

@@ -18,7 +18,7 @@ use Rattle.linear_combos.proofs.Weights.{weighed-insert}
 use Rattle.linear_combos.proofs.LowestCombos.{push-insert, times_turned}
 
 -- a key that is greater than all stands in the last gap
-last_gap : (ts : Terms) (key : List (List ℕ)) → ((k : List (List ℕ)) → HasKey ts k → key_cmp k key ≡ Less) → IsGapFor ts key (length ts)
+pub last_gap : (ts : Terms) (key : List (List ℕ)) → ((k : List (List ℕ)) → HasKey ts k → key_cmp k key ≡ Less) → IsGapFor ts key (length ts)
 last_gap ts key below = record {
   in_range = omega arith;
   smaller_before = λ j lt. below ((term_at ts j).1) (j, lt, refl);
@@ -26,7 +26,7 @@ last_gap ts key below = record {
 }
 
 -- the weight of one term more
-weighed-more : (w : List (List ℕ) → ℤ) (a : Terms) (i : ℕ) → i < length a
+pub weighed-more : (w : List (List ℕ) → ℤ) (a : Terms) (i : ℕ) → i < length a
     → weighed w (take (i + 1) a) ≡ weighed w (take i a) +ℤ ((term_at a i).0 *ℤ w (term_at a i).1)
 weighed-more w a i lt =
     ap (weighed w) (take_more a i (pos 0, []) lt ∙ push-insert (take i a) (term_at a i).0 (term_at a i).1)

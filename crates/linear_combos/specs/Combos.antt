@@ -1,5 +1,5 @@
 -- Combinations: a rank, a denominator and terms, in canonical form.
-use Rattle.std.specs.Prelude.{◌≡◌, ◌≢◌, ℕ, zero, suc, ◌^◌, ◌<◌, ◌≤◌, ◌⊎◌, ℤ, pos, negsuc, ◌+ℤ◌, ◌*ℤ◌, map, List, [], ◌∷◌, length, slice_index_or, unsigned_abs}
+use Rattle.std.specs.Prelude.{◌≡◌, ◌≢◌, ℕ, zero, suc, ◌+◌, ◌*◌, ◌^◌, ◌<◌, ◌≤◌, ◌⊎◌, ℤ, pos, negsuc, neg_ℤ, ◌+ℤ◌, ◌*ℤ◌, map, List, [], ◌∷◌, ◌++◌, length, slice_index_or, unsigned_abs}
 use Rattle.std.specs.Int.{◌∣◌}
 use Rattle.std.specs.List.{sum_by}
 use Rattle.std.specs.Ordering.{nat_cmp}
@@ -87,9 +87,26 @@ pub record IsSum (a b c : Combination) : Type 0 where
       ≡ (weighed weight a.terms *ℤ pos b.den +ℤ weighed weight b.terms *ℤ pos a.den) *ℤ pos c.den
   pub keys : (key : List (List ℕ)) → HasKey c.terms key → HasKey a.terms key ⊎ HasKey b.terms key
 
+-- the difference of two combinations, in the same way
+pub record IsDifference (a b c : Combination) : Type 0 where
+  pub rank : c.rank ≡ a.rank
+  pub weighs : (weight : List (List ℕ) → ℤ) → weighed weight c.terms *ℤ (pos a.den *ℤ pos b.den)
+      ≡ (weighed weight a.terms *ℤ pos b.den +ℤ neg_ℤ (weighed weight b.terms *ℤ pos a.den)) *ℤ pos c.den
+  pub keys : (key : List (List ℕ)) → HasKey c.terms key → HasKey a.terms key ⊎ HasKey b.terms key
+
 -- the product of a combination with a ratio, in the same way
 pub record IsMultiple (a : Combination) (by : Ratio) (c : Combination) : Type 0 where
   pub rank : c.rank ≡ a.rank
   pub weighs : (weight : List (List ℕ) → ℤ) → weighed weight c.terms *ℤ (pos a.den *ℤ pos by.den)
       ≡ (weighed weight a.terms *ℤ by.num) *ℤ pos c.den
   pub keys : (key : List (List ℕ)) → HasKey c.terms key → HasKey a.terms key
+
+-- the tensor product of two combinations: whatever the keys weigh, each pair of their keys weighs as the first followed by the second; and its keys are such pairs. Its denominator and norm are at most the products of theirs
+pub record IsTensor (a b c : Combination) : Type 0 where
+  pub rank : c.rank ≡ a.rank + b.rank
+  pub weighs : (weight : List (List ℕ) → ℤ) → weighed weight c.terms *ℤ (pos a.den *ℤ pos b.den)
+      ≡ weighed (λ left. weighed (λ right. weight (left ++ right)) b.terms) a.terms *ℤ pos c.den
+  pub keys : (key : List (List ℕ)) → HasKey c.terms key
+      → (left : List (List ℕ)) × (right : List (List ℕ)) × HasKey a.terms left × HasKey b.terms right × (key ≡ left ++ right)
+  pub den : c.den ≤ a.den * b.den
+  pub norm : norm_of c.terms ≤ norm_of a.terms * norm_of b.terms

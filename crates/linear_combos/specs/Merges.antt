@@ -1,5 +1,5 @@
 -- Terms on the way to canonical form: sums over a denominator that may have a factor in common with them.
-use Rattle.std.specs.Prelude.{◌≡◌, ℕ, ◌+◌, ◌*◌, ◌^◌, ◌<◌, ◌≤◌, ◌⊎◌, ℤ, pos, int_div, ◌+ℤ◌, ◌*ℤ◌, List, length, map, take, unsigned_abs}
+use Rattle.std.specs.Prelude.{◌≡◌, ℕ, ◌+◌, ◌*◌, ◌^◌, ◌<◌, ◌≤◌, ◌⊎◌, ℤ, pos, int_div, ◌+ℤ◌, ◌*ℤ◌, List, ◌++◌, length, map, take, unsigned_abs}
 use Rattle.std.specs.declared.cmp.Ordering.{Ordering}
 use Rattle.std.specs.declared.cmp.Ordering.TheVariants.{Less, Equal, Greater}
 use Rattle.std.specs.Int.{◌∣◌}
@@ -51,8 +51,36 @@ pub record IsCombined (r den : ℕ) (a : Terms) (p : ℤ) (b : Terms) (q : ℤ) 
       ≡ (weighed weight a *ℤ p +ℤ weighed weight b *ℤ q) *ℤ pos c.den
   pub keys : (key : List (List ℕ)) → HasKey c.terms key → HasKey a key ⊎ HasKey b key
 
--- the combination is these terms over this denominator
+-- the combination is these terms over this denominator, and neither the denominator nor the norm is larger
 pub record IsOver (r den : ℕ) (ts : Terms) (c : Combination) : Type 0 where
   pub rank : c.rank ≡ r
   pub weighs : (weight : List (List ℕ) → ℤ) → weighed weight c.terms *ℤ pos den ≡ weighed weight ts *ℤ pos c.den
   pub keys : (key : List (List ℕ)) → HasKey c.terms key → HasKey ts key
+  pub den_within : c.den ≤ den
+  pub norm_within : norm_of c.terms ≤ norm_of ts
+
+-- the first combination and the second one times a sign, in the way of a sum
+pub record IsSignedSum (a b : Combination) (sign : ℤ) (c : Combination) : Type 0 where
+  pub rank : c.rank ≡ a.rank
+  pub weighs : (weight : List (List ℕ) → ℤ) → weighed weight c.terms *ℤ (pos a.den *ℤ pos b.den)
+      ≡ (weighed weight a.terms *ℤ pos b.den +ℤ (weighed weight b.terms *ℤ sign) *ℤ pos a.den) *ℤ pos c.den
+  pub keys : (key : List (List ℕ)) → HasKey c.terms key → HasKey a.terms key ⊎ HasKey b.terms key
+
+-- the key is one of the first list followed by one of the second, at places that come before these
+pub record IsPairBefore (a b : Terms) (i j : ℕ) (key : List (List ℕ)) : Type 0 where
+  pub left : ℕ
+  pub right : ℕ
+  pub in_left : left < length a
+  pub in_right : right < length b
+  pub earlier : (left < i) ⊎ ((left ≡ i) × (right < j))
+  pub is : key ≡ (term_at a left).1 ++ (term_at b right).1
+
+-- the terms are the products of the first i terms of the first list with all of the second, and of its next term with the first j of the second
+pub record AreProducts (a b : Terms) (i j : ℕ) (ts : Terms) : Type 0 where
+  pub in_left : i ≤ length a
+  pub in_right : j ≤ length b
+  pub weighs : (weight : List (List ℕ) → ℤ) → weighed weight ts
+      ≡ weighed (λ left. weighed (λ right. weight (left ++ right)) b) (take i a)
+      +ℤ (term_at a i).0 *ℤ weighed (λ right. weight ((term_at a i).1 ++ right)) (take j b)
+  pub norm : norm_of ts ≤ norm_of (take i a) * norm_of b + unsigned_abs (term_at a i).0 * norm_of (take j b)
+  pub keys : (key : List (List ℕ)) → HasKey ts key → IsPairBefore a b i j key

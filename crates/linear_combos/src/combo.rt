@@ -1,18 +1,19 @@
 //! Combinations: a rank, a denominator, and terms in canonical form.
-ghost use Rattle.std.specs.Prelude.{◌≡◌, ◌≢◌, ◌↔◌, ◌+◌, ◌*◌, ◌/◌, ◌^◌, ◌<◌, ◌≤◌, ℕ, ℤ, pos, [], ◌∷◌, length, OnOk, OnErr, unsigned_abs, IfOk, IsTrue};
+ghost use Rattle.std.specs.Prelude.{◌≡◌, ◌≢◌, ◌↔◌, ◌+◌, ◌*◌, ◌*ℤ◌, ◌/◌, ◌^◌, ◌<◌, ◌≤◌, ℕ, ℤ, pos, [], ◌∷◌, length, OnOk, OnErr, unsigned_abs, IfOk, IsTrue};
 ghost use Rattle.std.specs.List.{insert};
 ghost use Rattle.hopf_num.specs.Divisors.{IsLcm};
 ghost use Rattle.hopf_num.specs.Room.{IsNeed, product_rule, sum_rule};
 ghost use Rattle.hopf_num.specs.declared.room.Need.TheVariants.{CommonDenominator, Product, Sum};
-ghost use Rattle.linear_combos.specs.Combos.{IsCanonical, IsGapFor, AddsTerm, IsSum, IsMultiple, AreTerms, norm_of, term_at, terms_of};
-ghost use Rattle.linear_combos.specs.Merges.{IsCombined, IsOver};
+ghost use Rattle.linear_combos.specs.Combos.{IsCanonical, IsGapFor, AddsTerm, IsSum, IsDifference, IsMultiple, IsTensor, AreTerms, norm_of, term_at, terms_of};
+ghost use Rattle.linear_combos.specs.Merges.{IsCombined, IsOver, IsSignedSum};
 ghost use Rattle.linear_combos.specs.Faults.{TestsRoom, IsTested};
 
 use crate::Key;
-use crate::lowest::{Unreduced, divide};
+use crate::lowest::{Unreduced, common_divisor, divide};
 use crate::merge::merge;
+use crate::tensor::add_products;
 use crate::terms::{copy_terms, place, remove_term};
-use hopf_num::{Fraction, Need, OutOfMemory, lcm};
+use hopf_num::{Fraction, Need, OutOfMemory, lcm, product};
 use std::alloc::{AllocError, Global};
 use std::marker::Model;
 
@@ -223,8 +224,21 @@ impl Combo {
         ensures room { (m : ℕ) → IsLcm a.now.den b.now.den m
             → TestsRoom (sum_rule m a.now.den b.now.den (norm_of a.now.terms) (norm_of b.now.terms)) result }
     {
-        let den = common_denominator(a.den, b.den)?;
-        Combo::plus_over(alloc, a, b, den)
+        Combo::signed_sum(alloc, a, b, 1)
+    }
+
+    /// The difference of two combinations of one rank.
+    ///
+    /// It answers `TooLarge` exactly where the least common multiple of the denominators is 2^127 or
+    /// more, or else the sum of the norms over it is. `Memory` comes only where there is room. The
+    /// cost is that of `plus`.
+    pub fn minus(alloc: Global, a: &Combo, b: &Combo) -> Result<Combo, ComboFault>
+        requires rank { a.now.rank ≡ b.now.rank }
+        ensures difference { IfOk result (λ c. IsDifference a.now b.now c) }
+        ensures room { (m : ℕ) → IsLcm a.now.den b.now.den m
+            → TestsRoom (sum_rule m a.now.den b.now.den (norm_of a.now.terms) (norm_of b.now.terms)) result }
+    {
+        Combo::signed_sum(alloc, a, b, -1)
     }
 
     /// The product with a fraction. By 0 it is zero.
@@ -243,6 +257,49 @@ impl Combo {
             right: den,
         })?;
         Combo::scale_over(alloc, a, by, a.den * den)
+    }
+
+    /// The combination divided by a positive number. It takes no memory.
+    ///
+    /// The cost is one pass over the numerators, and one more where a common factor is taken out.
+    pub fn over(self, den: u128) -> Combo
+        requires positive { 1 ≤ den }
+        requires room { self.den * den < 2 ^ 127 }
+        ensures { IsMultiple self (record { num = pos 1; den = den }) result }
+    {
+        let den = self.den * den;
+        let common = common_divisor(den, &self.terms);
+        let Combo {
+            rank,
+            norm,
+            terms,
+            ..
+        } = self;
+        Combo::lowest(Unreduced {
+            rank,
+            den,
+            common,
+            norm,
+            terms,
+        })
+    }
+
+    /// The tensor product: each key of the first followed by each key of the second.
+    ///
+    /// It answers `TooLarge` exactly where the product of the denominators is 2^127 or more, or else
+    /// that of the norms is, both before they are reduced. `Memory` comes only where there is room.
+    /// The cost is one step for each pair of terms, with no search, since the keys come in order, and
+    /// one more pass where a common factor is taken out.
+    pub fn tensor(alloc: Global, a: &Combo, b: &Combo) -> Result<Combo, ComboFault>
+        requires rank { a.now.rank + b.now.rank ≤ 3 }
+        ensures tensor { IfOk result (λ c. IsTensor a.now b.now c) }
+        ensures room { TestsRoom (product_rule a.now.den b.now.den (norm_of a.now.terms) (norm_of b.now.terms) 0) result }
+    {
+        test_product(a.den, b.den, a.norm, b.norm)?;
+        match Combo::tensor_with_room(alloc, a, b) {
+            Ok(tensor) => Ok(tensor),
+            Err(_) => Err(ComboFault::Memory),
+        }
     }
 
     /// The same combination.
@@ -265,12 +322,31 @@ impl Combo {
         a.den == b.den && a.terms == b.terms
     }
 
-    // The sum, over the least common multiple of the denominators.
-    fn plus_over(alloc: Global, a: &Combo, b: &Combo, den: u128) -> Result<Combo, ComboFault>
+    // The sum of the first combination and of the second one times 1 or -1.
+    fn signed_sum(alloc: Global, a: &Combo, b: &Combo, sign: i128) -> Result<Combo, ComboFault>
         requires rank { a.now.rank ≡ b.now.rank }
+        requires sign { unsigned_abs sign ≡ 1 }
+        ensures sum { IfOk result (λ c. IsSignedSum a.now b.now sign c) }
+        ensures room { (m : ℕ) → IsLcm a.now.den b.now.den m
+            → TestsRoom (sum_rule m a.now.den b.now.den (norm_of a.now.terms) (norm_of b.now.terms)) result }
+    {
+        let den = common_denominator(a.den, b.den)?;
+        Combo::sum_over(alloc, a, b, sign, den)
+    }
+
+    // The same sum, over the least common multiple of the denominators.
+    fn sum_over(
+        alloc: Global,
+        a: &Combo,
+        b: &Combo,
+        sign: i128,
+        den: u128,
+    ) -> Result<Combo, ComboFault>
+        requires rank { a.now.rank ≡ b.now.rank }
+        requires sign { unsigned_abs sign ≡ 1 }
         requires least { IsLcm a.now.den b.now.den den }
         requires small { den < 2 ^ 127 }
-        ensures sum { IfOk result (λ c. IsSum a.now b.now c) }
+        ensures sum { IfOk result (λ c. IsSignedSum a.now b.now sign c) }
         ensures room { TestsRoom (Sum (norm_of a.now.terms) (den / a.now.den) (norm_of b.now.terms) (den / b.now.den) ∷ []) result }
     {
         let left_factor = den / a.den;
@@ -288,7 +364,7 @@ impl Combo {
             &a.terms,
             left_factor as i128,
             &b.terms,
-            right_factor as i128,
+            with_sign(right_factor, sign),
         );
         match sum {
             Ok(sum) => Ok(sum),
@@ -313,6 +389,18 @@ impl Combo {
             Ok(multiple) => Ok(multiple),
             Err(_) => Err(ComboFault::Memory),
         }
+    }
+
+    // The tensor product, where it has room.
+    fn tensor_with_room(alloc: Global, a: &Combo, b: &Combo) -> Result<Combo, OutOfMemory>
+        requires rank { a.now.rank + b.now.rank ≤ 3 }
+        requires den { a.now.den * b.now.den < 2 ^ 127 }
+        requires norm { norm_of a.now.terms * norm_of b.now.terms < 2 ^ 127 }
+        ensures { IfOk result (λ c. IsTensor a.now b.now c) }
+    {
+        let mut tensor = Unreduced::new(alloc, a.rank + b.rank, a.den * b.den);
+        add_products(&mut tensor, a, b)?;
+        Ok(Combo::lowest(tensor))
     }
 
     // The same sum in lowest terms.
@@ -345,6 +433,30 @@ fn test(need: Need) -> Result<(), ComboFault>
         return Err(ComboFault::TooLarge(need));
     }
     Ok(())
+}
+
+// Whether the product of values with these denominators and norms has room.
+fn test_product(left_den: u128, right_den: u128, left: u128, right: u128) -> Result<(), ComboFault>
+    ensures { TestsRoom (product_rule left_den right_den left right 0) result }
+{
+    test(Need::Denominator {
+        left: left_den,
+        right: right_den,
+    })?;
+    test(Need::Product {
+        left,
+        right,
+        shift: 0,
+    })
+}
+
+// A factor with a sign, 1 or -1.
+fn with_sign(factor: u128, sign: i128) -> i128
+    requires small { factor < 2 ^ 127 }
+    requires sign { unsigned_abs sign ≡ 1 }
+    ensures { result ≡ pos factor *ℤ sign }
+{
+    product(factor as i128, sign)
 }
 
 // The least common multiple of two denominators.

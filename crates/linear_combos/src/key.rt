@@ -1,5 +1,5 @@
 //! Keys: the lists of codes that stand for tensors of basis elements.
-ghost use Rattle.std.specs.Prelude.{◌≡◌, ◌≤◌, ◌-◌, List, ℕ, [], ◌∷◌, length, refl, slice_index_or, nat_eq, Some};
+ghost use Rattle.std.specs.Prelude.{◌≡◌, ◌≤◌, ◌+◌, ◌-◌, List, ℕ, [], ◌∷◌, ◌++◌, length, refl, slice_index_or, nat_eq, Some};
 ghost use Rattle.std.specs.Cmp.{partial_equiv_from_equiv};
 ghost use Rattle.std.specs.Ordering.{nat_cmp};
 ghost use Rattle.std.specs.Cmp.Lexicographic.{pointwise, slice_cmp, lists_equiv, lists_total, lists_ties, nat_list_eq_equiv, nat_list_cmp_total, texts_ties};
@@ -120,6 +120,25 @@ impl Key {
             Components::One(a) => Key::one(a.copy()),
             Components::Two(a, b) => Key::two(a.copy(), b.copy()),
             Components::Three(a, b, c) => Key::three(a.copy(), b.copy(), c.copy()),
+        }
+    }
+
+    /// The codes of this key, and then those of the other one.
+    pub fn followed_by(&self, other: &Key) -> Key
+        requires { length self.now + length other.now ≤ 3 }
+        ensures { result ≡ self.now ++ other.now }
+    {
+        match (&self.codes, &other.codes) {
+            (Components::None, _) => other.copy(),
+            (_, Components::None) => self.copy(),
+            (Components::One(a), Components::One(x)) => Key::two(a.copy(), x.copy()),
+            (Components::One(a), Components::Two(x, y)) => {
+                Key::three(a.copy(), x.copy(), y.copy())
+            }
+            (Components::Two(a, b), Components::One(x)) => {
+                Key::three(a.copy(), b.copy(), x.copy())
+            }
+            _ => unreachable!(),
         }
     }
 }

@@ -12,6 +12,7 @@ mod key;
 mod laws;
 mod lowest;
 mod merge;
+mod tensor;
 mod terms;
 #[cfg(test)]
 mod tests;

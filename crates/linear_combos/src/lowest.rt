@@ -1,7 +1,7 @@
 //! Terms over a denominator that may have a factor in common with them.
 ghost use Rattle.std.specs.Prelude.{◌≡◌, ◌≢◌, ◌+◌, ◌^◌, ◌<◌, ◌≤◌, pos, int_div, [], ◌∷◌, ◌++◌, length, slice_set, unsigned_abs, OnOk, OnErr};
 ghost use Rattle.linear_combos.specs.Combos.{AddsTerm, IsGapFor, norm_of, term_at};
-ghost use Rattle.linear_combos.specs.Merges.{quotients};
+ghost use Rattle.linear_combos.specs.Merges.{IsCommon, quotients};
 
 use crate::Key;
 use hopf_num::{OutOfMemory, gcd, quotient};
@@ -78,6 +78,18 @@ impl Unreduced {
         self.common = gcd(num.unsigned_abs(), self.common);
         Ok(())
     }
+}
+
+// The greatest common divisor of a denominator and all numerators.
+pub(crate) fn common_divisor(den: u128, terms: &[(i128, Key)]) -> u128
+    requires { norm_of terms.now < 2 ^ 127 }
+    ensures { IsCommon den terms.now result }
+{
+    let mut common = den;
+    for term in terms {
+        common = gcd(term.0.unsigned_abs(), common);
+    }
+    common
 }
 
 // Divides each numerator by a common divisor.
