@@ -1,20 +1,21 @@
 -- The combination of a sum as a value.
 use Rattle.std.proofs.Common.{◌≡◌, ℕ, ◌*◌, ◌≤◌, ◌⊎◌, inl, inr, List, [], ◌∷◌, length, refl, sym, ◌∙◌, ap, subst, arith}
-use Rattle.std.proofs.Math.IntN.{ℤ, pos, ◌*ℤ◌, pos-*ℤ-pos}
-use Rattle.linear_combos.specs.Combos.{Combination, IsSum, HasKey}
+use Rattle.std.proofs.Math.IntN.{ℤ, pos, negsuc, ◌+ℤ◌, ◌*ℤ◌, pos-*ℤ-pos, *ℤ_comm, *ℤ-one, one}
+use Rattle.hopf_num.proofs.Ring.{*ℤ-neg_ℤ}
+use Rattle.linear_combos.specs.Combos.{Combination, HasKey}
 use Rattle.linear_combos.specs.Indices.{AreIndices, total_degree}
-use Rattle.linear_combos.specs.Readings.{leaf, sum_of, occurrence, numerator, denominator, AgreeAt}
+use Rattle.linear_combos.specs.Readings.{leaf, occurrence, numerator, denominator, AgreeAt}
 use Rattle.linear_combos.specs.Rows.{Row}
 use Rattle.hopf_laws.specs.declared.bases.BasisId.{BasisId}
 use Rattle.hopf_laws.specs.declared.bases.BasisId.TheVariants.{QsymM}
 use Rattle.hopf_laws.specs.Bases.{rows_of, least_limit}
 use Rattle.hopf_laws.specs.Values.{Expansion, IsValue, reading_of}
-use Rattle.std.specs.Prelude.{All}
+use Rattle.std.specs.Prelude.{All, Bool, true, false, neg_ℤ}
 use Rattle.basis_routes.specs.declared.checks.Check.TheVariants.{SameRank}
 use Rattle.basis_routes.specs.Checks.{Passes}
 use Rattle.basis_routes.specs.Joins.{joined}
-use Rattle.hopf_ops.specs.Operations.{common_checks}
-use Rattle.hopf_ops.specs.Answers.{IsOver}
+use Rattle.hopf_ops.specs.Operations.{common_checks, sum_or_difference_of}
+use Rattle.hopf_ops.specs.Answers.{IsOver, IsSumOrDifference}
 
 -- while there is one basis, lists of one length are the same, and so are their joins
 pub same_bases : (lefts rights : List BasisId) → length lefts ≡ length rights → lefts ≡ rights
@@ -37,27 +38,61 @@ key_of_either a b ha hb same key (inr has) = (
   subst (λ bases. total_degree (rows_of bases) key ≤ least_limit bases) (sym same) (hb.degrees key has),
 )
 
--- the sum is over the joined bases
-pub sum_over : (a b : Expansion) (c : Combination) → IsValue a → IsValue b → length a.bases ≡ length b.bases → IsSum a.combination b.combination c
-    → IsOver (joined a.bases b.bases) c
-sum_over a b c ha hb long is =
+rank_of : (minus : Bool) (a b c : Combination) → IsSumOrDifference minus a b c → c.rank ≡ a.rank
+rank_of true a b c is = is.rank
+rank_of false a b c is = is.rank
+
+keys_of : (minus : Bool) (a b c : Combination) → IsSumOrDifference minus a b c → (key : List (List ℕ)) → HasKey c.terms key → HasKey a.terms key ⊎ HasKey b.terms key
+keys_of true a b c is = is.keys
+keys_of false a b c is = is.keys
+
+-- the sum or difference is over the joined bases
+pub sum_over : (minus : Bool) (a b : Expansion) (c : Combination) → IsValue a → IsValue b → length a.bases ≡ length b.bases
+    → IsSumOrDifference minus a.combination b.combination c → IsOver (joined a.bases b.bases) c
+sum_over minus a b c ha hb long is =
     let same = same_bases a.bases b.bases long in
     subst (λ bases. IsOver bases c) (sym (joined-same a.bases b.bases long)) (record {
       short = ha.short;
-      rank = is.rank ∙ ha.rank;
-      indices = λ key has. (key_of_either a b ha hb same key (is.keys key has)).0;
-      degrees = λ key has. (key_of_either a b ha hb same key (is.keys key has)).1;
+      rank = rank_of minus a.combination b.combination c is ∙ ha.rank;
+      indices = λ key has. (key_of_either a b ha hb same key (keys_of minus a.combination b.combination c is key has)).0;
+      degrees = λ key has. (key_of_either a b ha hb same key (keys_of minus a.combination b.combination c is key has)).1;
     })
 
--- and reads as the sum
-pub sum_reads : (a b : Expansion) (c : Combination) → length a.bases ≡ length b.bases → IsSum a.combination b.combination c
-    → (ps : List (List ℕ)) → AgreeAt (leaf (rows_of (joined a.bases b.bases)) c.den c.terms) (sum_of (reading_of a) (reading_of b)) ps
-sum_reads a b c long is ps =
+times-minus_one : (z : ℤ) → negsuc 0 *ℤ z ≡ neg_ℤ z
+unfolding one
+times-minus_one z = *ℤ_comm (negsuc 0) z ∙ *ℤ-neg_ℤ z (pos 1) ∙ ap neg_ℤ (*ℤ-one z)
+
+-- over the same bases it reads as the sum or difference
+reads_over : (minus : Bool) (bases : List BasisId) (a b c : Combination) → IsSumOrDifference minus a b c → (ps : List (List ℕ))
+    → AgreeAt (leaf (rows_of bases) c.den c.terms) (sum_or_difference_of minus (record { bases = bases; combination = a }) (record { bases = bases; combination = b })) ps
+reads_over false bases a b c is ps =
+    ap (λ z. numerator (leaf (rows_of bases) c.den c.terms) ps *ℤ z) (sym (pos-*ℤ-pos a.den b.den))
+    ∙ is.weighs (λ key. pos (occurrence (rows_of bases) key ps))
+reads_over true bases a b c is ps =
+    let right = numerator (leaf (rows_of bases) b.den b.terms) ps in
+    let den : pos (a.den * (1 * b.den)) ≡ pos a.den *ℤ pos b.den = ap (λ n. pos (a.den * n)) (one-mul b.den) ∙ sym (pos-*ℤ-pos a.den b.den) in
+    let value : (numerator (leaf (rows_of bases) a.den a.terms) ps *ℤ pos b.den) +ℤ neg_ℤ (right *ℤ pos a.den)
+      ≡ (numerator (leaf (rows_of bases) a.den a.terms) ps *ℤ pos (1 * b.den)) +ℤ ((negsuc 0 *ℤ right) *ℤ pos a.den) =
+    (λ i. (numerator (leaf (rows_of bases) a.den a.terms) ps *ℤ pos (sym (one-mul b.den) i)) +ℤ negated right a.den i) in
+    ap (λ z. numerator (leaf (rows_of bases) c.den c.terms) ps *ℤ z) den
+    ∙ is.weighs (λ key. pos (occurrence (rows_of bases) key ps))
+    ∙ ap (λ z. z *ℤ pos c.den) value
+  where
+    one-mul : (n : ℕ) → 1 * n ≡ n
+    one-mul n = omega arith
+    negated : (z : ℤ) (n : ℕ) → neg_ℤ (z *ℤ pos n) ≡ (negsuc 0 *ℤ z) *ℤ pos n
+    negated z n =
+        ap neg_ℤ (*ℤ_comm z (pos n)) ∙ sym (*ℤ-neg_ℤ (pos n) z) ∙ *ℤ_comm (pos n) (neg_ℤ z)
+        ∙ ap (λ y. y *ℤ pos n) (sym (times-minus_one z))
+
+-- so it reads over the joined bases
+pub sum_reads : (minus : Bool) (a b : Expansion) (c : Combination) → length a.bases ≡ length b.bases → IsSumOrDifference minus a.combination b.combination c
+    → (ps : List (List ℕ)) → AgreeAt (leaf (rows_of (joined a.bases b.bases)) c.den c.terms) (sum_or_difference_of minus a b) ps
+sum_reads minus a b c long is ps =
     let same = same_bases a.bases b.bases long in
-    subst (λ bases. AgreeAt (leaf (rows_of bases) c.den c.terms) (sum_of (reading_of a) (reading_of b)) ps) (sym (joined-same a.bases b.bases long))
-    (subst (λ bases. AgreeAt (leaf (rows_of a.bases) c.den c.terms) (sum_of (reading_of a) (leaf (rows_of bases) b.combination.den b.combination.terms)) ps) same
-    (ap (λ z. numerator (leaf (rows_of a.bases) c.den c.terms) ps *ℤ z) (sym (pos-*ℤ-pos a.combination.den b.combination.den))
-    ∙ is.weighs (λ key. pos (occurrence (rows_of a.bases) key ps))))
+    subst (λ bases. AgreeAt (leaf (rows_of bases) c.den c.terms) (sum_or_difference_of minus a b) ps) (sym (joined-same a.bases b.bases long))
+    (subst (λ bases. AgreeAt (leaf (rows_of a.bases) c.den c.terms) (sum_or_difference_of minus a (record { bases = bases; combination = b.combination })) ps) same
+    (reads_over minus a.bases a.combination b.combination c is ps))
 
 -- two values that pass their common checks have one rank
 pub same_rank : (degree : ℕ) (a b : Expansion) → All Passes (common_checks degree a b) → length a.bases ≡ length b.bases

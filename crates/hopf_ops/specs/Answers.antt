@@ -1,6 +1,6 @@
 -- From combinations to values.
-use Rattle.std.specs.Prelude.{◌≡◌, ℕ, ◌≤◌, List, length, Result, Ok, Err}
-use Rattle.linear_combos.specs.Combos.{Combination, HasKey}
+use Rattle.std.specs.Prelude.{◌≡◌, ℕ, ◌≤◌, Bool, true, false, List, length, Result, Ok, Err}
+use Rattle.linear_combos.specs.Combos.{Combination, HasKey, IsSum, IsDifference}
 use Rattle.linear_combos.specs.Indices.{AreIndices, total_degree}
 use Rattle.linear_combos.specs.declared.combo.ComboFault.{ComboFault}
 use Rattle.linear_combos.specs.declared.combo.ComboFault.TheVariants.{TooLarge, Memory}
@@ -22,3 +22,8 @@ abbrev pub IsAnswerOver : List BasisId → Result Combination ComboFault → Res
 IsAnswerOver bases (Ok c) result = result ≡ Ok (record { bases = bases; combination = c })
 IsAnswerOver bases (Err (TooLarge need)) result = result ≡ Err (refused_too_large need)
 IsAnswerOver bases (Err Memory) result = result ≡ Err refused_memory
+
+-- the combination is the difference of two, or else their sum
+abbrev pub IsSumOrDifference : Bool → Combination → Combination → Combination → Type 0
+IsSumOrDifference true a b c = IsDifference a b c
+IsSumOrDifference false a b c = IsSum a b c

@@ -1,5 +1,5 @@
 -- The operations on values: for each the checks in order, the bases of its answer and the reading of its answer.
-use Rattle.std.specs.Prelude.{ℕ, ◌+◌, ◌*◌, max, ◌||◌, if◌then◌else◌, Bool, pos, negsuc, List, [], ◌∷◌, ◌++◌, length, nat_eq, unsigned_abs}
+use Rattle.std.specs.Prelude.{ℕ, ◌+◌, ◌*◌, max, ◌||◌, if◌then◌else◌, Bool, true, false, pos, negsuc, List, [], ◌∷◌, ◌++◌, length, nat_eq, unsigned_abs}
 use Rattle.hopf_num.specs.Fractions.{reciprocal}
 use Rattle.hopf_num.specs.Room.{product_rule, sum_rule}
 use Rattle.linear_combos.specs.Combos.{norm_of}
@@ -30,6 +30,11 @@ negation_of a = multiple (negsuc 0) 1 (reading_of a)
 
 abbrev pub difference_of : Expansion → Expansion → Reading
 difference_of a b = sum_of (reading_of a) (negation_of b)
+
+-- the difference, or else the sum
+abbrev pub sum_or_difference_of : Bool → Expansion → Expansion → Reading
+sum_or_difference_of true a b = difference_of a b
+sum_or_difference_of false a b = sum_of (reading_of a) (reading_of b)
 
 -- a product with a scalar is the tensor product; other values multiply component by component
 abbrev pub has_scalar : Expansion → Expansion → Bool

@@ -9,4 +9,4 @@ mod multiples;
 mod sums;
 
 pub use multiples::{divide, negate};
-pub use sums::add;
+pub use sums::{add, sub};

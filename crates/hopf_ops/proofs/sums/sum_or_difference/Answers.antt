@@ -4,17 +4,16 @@ use Rattle.std.proofs.lemmas.Result.{IfOk-weaker, err_from_is_err_and}
 use Rattle.hopf_num.specs.Divisors.{IsLcm}
 use Rattle.hopf_num.specs.Room.{sum_rule}
 use Rattle.linear_combos.specs.Faults.{TestsRoom}
-use Rattle.linear_combos.specs.Combos.{Combination, IsSum, norm_of}
-use Rattle.linear_combos.specs.Readings.{sum_of}
-use Rattle.hopf_laws.specs.Values.{Expands, reading_of, degree_of_value}
+use Rattle.linear_combos.specs.Combos.{Combination, norm_of}
+use Rattle.hopf_laws.specs.Values.{degree_of_value}
 use Rattle.basis_routes.specs.Checks.{Passes, IsRefusalOf, Tests, room_checks}
 use Rattle.basis_routes.specs.Joins.{joined}
 use Rattle.basis_routes.proofs.Rows.{refused_front, tests_back}
-use Rattle.hopf_ops.specs.Answers.{IsOver, IsAnswerOver}
-use Rattle.hopf_ops.specs.Operations.{common_checks, sum_checks}
+use Rattle.hopf_ops.specs.Answers.{IsOver, IsAnswerOver, IsSumOrDifference}
+use Rattle.hopf_ops.specs.Operations.{common_checks, sum_or_difference_of}
 use Rattle.hopf_ops.proofs.Rooms.{answer_tests_room, answer_expands}
 use Rattle.hopf_ops.proofs.SumsOfValues.{same_rank, sum_over, sum_reads}
-use Rattle.hopf_ops.proofs.sums.add.Goals as goal
+use Rattle.hopf_ops.proofs.sums.sum_or_difference.Goals as goal
 
 pub returns-in_err-bases-clause-checks : goal.returns-in_err-bases-clause-checks
 returns-in_err-bases-clause-checks c = λ m is.
@@ -29,9 +28,9 @@ over_bases-requires c =
     let a = c.args.a.now in
     let b = c.args.b.now in
     let pass : All Passes (common_checks (max (degree_of_value a) (degree_of_value b)) a b) = search rules in
-    let sum : IfOk c.plus.result (IsSum a.combination b.combination) = rw (← c.combo.ensures.combination, ← c.combo-2.ensures.combination) c.plus.ensures.sum in
-    rw c.in_ok-bases.ensures.value (IfOk-weaker c.plus.result (IsSum a.combination b.combination) (IsOver (joined a.bases b.bases))
-    (λ s is. sum_over a b s c.combo.ensures.value c.combo-2.ensures.value (same_rank _ a b pass) is) sum)
+    let sum : IfOk c.plus_or_minus.result (IsSumOrDifference c.args.minus a.combination b.combination) = rw (← c.combo.ensures.combination, ← c.combo-2.ensures.combination) c.plus_or_minus.ensures.sum in
+    rw c.in_ok-bases.ensures.value (IfOk-weaker c.plus_or_minus.result (IsSumOrDifference c.args.minus a.combination b.combination) (IsOver (joined a.bases b.bases))
+    (λ s is. sum_over c.args.minus a b s c.combo.ensures.value c.combo-2.ensures.value (same_rank _ a b pass) is) sum)
 
 pub returns-clause-checks : goal.returns-clause-checks
 returns-clause-checks c = λ m is.
@@ -42,17 +41,17 @@ returns-clause-checks c = λ m is.
     let needs = sum_rule m a.combination.den b.combination.den (norm_of a.combination.terms) (norm_of b.combination.terms) in
     let left = c.combo.result.now in
     let room =
-    subst (λ (x : Combination). (n : ℕ) → IsLcm x.den b.combination.den n → TestsRoom (sum_rule n x.den b.combination.den (norm_of x.terms) (norm_of b.combination.terms)) c.plus.result) c.combo.ensures.combination
-    (subst (λ (y : Combination). (n : ℕ) → IsLcm left.den y.den n → TestsRoom (sum_rule n left.den y.den (norm_of left.terms) (norm_of y.terms)) c.plus.result) c.combo-2.ensures.combination c.plus.ensures.room) in
+    subst (λ (x : Combination). (n : ℕ) → IsLcm x.den b.combination.den n → TestsRoom (sum_rule n x.den b.combination.den (norm_of x.terms) (norm_of b.combination.terms)) c.plus_or_minus.result) c.combo.ensures.combination
+    (subst (λ (y : Combination). (n : ℕ) → IsLcm left.den y.den n → TestsRoom (sum_rule n left.den y.den (norm_of left.terms) (norm_of y.terms)) c.plus_or_minus.result) c.combo-2.ensures.combination c.plus_or_minus.ensures.room) in
     tests_back common (room_checks needs) c.over_bases.result pass
-    (answer_tests_room c.in_ok-bases.bases needs c.plus.result c.over_bases.result (room m is) c.over_bases.ensures.answer)
+    (answer_tests_room c.in_ok-bases.bases needs c.plus_or_minus.result c.over_bases.result (room m is) c.over_bases.ensures.answer)
 
 pub returns-clause-value : goal.returns-clause-value
 returns-clause-value c =
     let a = c.args.a.now in
     let b = c.args.b.now in
     let pass : All Passes (common_checks (max (degree_of_value a) (degree_of_value b)) a b) = search rules in
-    let sum : IfOk c.plus.result (IsSum a.combination b.combination) = rw (← c.combo.ensures.combination, ← c.combo-2.ensures.combination) c.plus.ensures.sum in
-    answer_expands (IsSum a.combination b.combination) (joined a.bases b.bases) (sum_of (reading_of a) (reading_of b)) c.plus.result c.over_bases.result
-    (subst (λ bases. IsAnswerOver bases c.plus.result c.over_bases.result) c.in_ok-bases.ensures.value c.over_bases.ensures.answer) sum c.over_bases.ensures.value
-    (λ s is. sum_reads a b s (same_rank _ a b pass) is)
+    let sum : IfOk c.plus_or_minus.result (IsSumOrDifference c.args.minus a.combination b.combination) = rw (← c.combo.ensures.combination, ← c.combo-2.ensures.combination) c.plus_or_minus.ensures.sum in
+    answer_expands (IsSumOrDifference c.args.minus a.combination b.combination) (joined a.bases b.bases) (sum_or_difference_of c.args.minus a b) c.plus_or_minus.result c.over_bases.result
+    (subst (λ bases. IsAnswerOver bases c.plus_or_minus.result c.over_bases.result) c.in_ok-bases.ensures.value c.over_bases.ensures.answer) sum c.over_bases.ensures.value
+    (λ s is. sum_reads c.args.minus a b s (same_rank _ a b pass) is)
