@@ -1,5 +1,5 @@
 -- Degrees of values.
-use Rattle.std.proofs.Common.{◌≡◌, ℕ, zero, suc, ◌+◌, ◌<◌, ◌≤◌, List, [], ◌∷◌, length, take, sym, ◌∙◌, ap, arith}
+use Rattle.std.proofs.Common.{◌≡◌, ℕ, zero, suc, ◌+◌, ◌<◌, ◌≤◌, List, [], ◌∷◌, length, take, refl, sym, ◌∙◌, ap, arith}
 use Rattle.std.specs.Prelude.{max}
 use Rattle.linear_combos.specs.Combos.{HasKey, term_at}
 use Rattle.linear_combos.specs.Indices.{total_degree}
@@ -7,8 +7,8 @@ use Rattle.linear_combos.specs.Readings.{Terms}
 use Rattle.linear_combos.specs.Rows.{Row}
 use Rattle.hopf_laws.specs.declared.bases.BasisId.{BasisId}
 use Rattle.hopf_laws.specs.declared.bases.BasisId.TheVariants.{QsymM}
-use Rattle.hopf_laws.specs.Bases.{least_limit}
-use Rattle.hopf_laws.specs.Values.{greatest_degree}
+use Rattle.hopf_laws.specs.Bases.{rows_of, least_limit}
+use Rattle.hopf_laws.specs.Values.{Expansion, IsValue, greatest_degree, degree_of_value}
 
 -- limits are small
 pub least_limit-small : (bases : List BasisId) → least_limit bases ≤ 10
@@ -28,3 +28,24 @@ greatest_degree-more rows (t ∷ ts) (suc i) lt =
   where
     max_assoc : (a b c : ℕ) → max (max a b) c ≡ max a (max b c)
     max_assoc a b c = omega arith
+
+-- a key is at most of the greatest degree
+pub degree-le-greatest : (rows : List Row) (ts : Terms) (key : List (List ℕ)) → HasKey ts key → total_degree rows key ≤ greatest_degree rows ts
+degree-le-greatest rows [] key has = absurd (omega (arith, has.1))
+degree-le-greatest rows (t ∷ ts) key (zero, lt, is) = omega (arith, ap (λ k. total_degree rows k) is)
+degree-le-greatest rows (t ∷ ts) key (suc i, lt, is) = let rest = degree-le-greatest rows ts key (i, omega (arith, lt), is) in omega (arith, rest)
+
+-- and where each key is within a limit, so is the greatest degree
+greatest_degree-le : (rows : List Row) (ts : Terms) (limit : ℕ) → ((key : List (List ℕ)) → HasKey ts key → total_degree rows key ≤ limit) → greatest_degree rows ts ≤ limit
+greatest_degree-le rows [] limit h = omega arith
+greatest_degree-le rows (t ∷ ts) limit h =
+    let first = h t.1 (0, omega arith, refl) in
+    let rest = greatest_degree-le rows ts limit (λ key has. h key (suc has.0, omega (arith, has.1), has.2)) in
+    omega (arith, first, rest)
+
+-- the degree of a value is within the least limit of its bases
+pub degree_within : (v : Expansion) → IsValue v → degree_of_value v ≤ least_limit v.bases
+degree_within v is = greatest_degree-le (rows_of v.bases) v.combination.terms (least_limit v.bases) is.degrees
+
+pub degree-small : (v : Expansion) → IsValue v → degree_of_value v ≤ 10
+degree-small v is = omega (arith, degree_within v is, least_limit-small v.bases)

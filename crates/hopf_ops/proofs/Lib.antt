@@ -1,3 +1,4 @@
 pub mod MultiplesOfValues
 pub mod Rooms
 pub mod SumsOfValues
+pub mod TensorsOfValues

@@ -37,14 +37,14 @@ answer_has P Q bases (Err fault_memory) result e p q =
 -- a value over the bases reads as its combination does
 pub answer_expands : (P : Combination → Type 0) (bases : List BasisId) (reading : Reading) (combo : Result Combination ComboFault) (result : Result Expansion Refusal)
     → IsAnswerOver bases combo result → IfOk combo P → IfOk result IsValue
-    → ((c : Combination) → P c → (ps : List (List ℕ)) → AgreeAt (leaf (rows_of bases) c.den c.terms) reading ps)
+    → ((c : Combination) → P c → (ps : List (List ℕ)) → length ps ≡ length bases → AgreeAt (leaf (rows_of bases) c.den c.terms) reading ps)
     → IfOk result (Expands bases reading)
 answer_expands P bases reading combo result e p value reads =
     IfOk-weaker result (λ (v : Expansion). (v.bases ≡ bases) × P v.combination × IsValue v) (Expands bases reading)
     (λ v h. record {
       value = h.2;
       over = h.0;
-      reads = λ ps long. subst (λ bs. AgreeAt (leaf (rows_of bs) v.combination.den v.combination.terms) reading ps) (sym h.0) (reads v.combination h.1 ps);
+      reads = λ ps long. subst (λ bs. AgreeAt (leaf (rows_of bs) v.combination.den v.combination.terms) reading ps) (sym h.0) (reads v.combination h.1 ps long);
     })
     (answer_has P IsValue bases combo result e p value)
 

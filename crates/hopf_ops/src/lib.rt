@@ -6,7 +6,9 @@
 
 mod common;
 mod multiples;
+mod products;
 mod sums;
 
 pub use multiples::{divide, negate};
+pub use products::tensor;
 pub use sums::{add, sub};

@@ -33,7 +33,7 @@ weighed-scale z f (t ∷ ts) =
     omega (arith, ints, *ℤ-+ℤ z (t.0 *ℤ f t.1) (weighed f ts), head, weighed-scale z f ts)
 
 -- a product of two sums is the sum of the products
-weighed-times : (f g : Codes → ℤ) (ts us : Terms) → weighed f ts *ℤ weighed g us ≡ weighed (λ k. weighed (λ l. f k *ℤ g l) us) ts
+pub weighed-times : (f g : Codes → ℤ) (ts us : Terms) → weighed f ts *ℤ weighed g us ≡ weighed (λ k. weighed (λ l. f k *ℤ g l) us) ts
 weighed-times f g ts us =
     *ℤ_comm (weighed f ts) (weighed g us)
     ∙ weighed-scale (weighed g us) f ts
