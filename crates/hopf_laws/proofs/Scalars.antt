@@ -75,7 +75,7 @@ fraction-scalar den ts h lowest = record {
           subst (λ n. d ∣ unsigned_abs n) (ap (λ us. (term_at us 0).0) (sym some) ∙ ap (λ k. (term_at ts k).0) (sym only)) p
     ]
 
-no_bases : (bases : List BasisId) → length bases ≡ 0 → bases ≡ []
+pub no_bases : (bases : List BasisId) → length bases ≡ 0 → bases ≡ []
 no_bases [] e = refl
 no_bases (basis ∷ bases) e = absurd (omega arith)
 

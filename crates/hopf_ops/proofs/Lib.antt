@@ -1,4 +1,5 @@
 pub mod MultiplesOfValues
+pub mod ProductsOfValues
 pub mod Rooms
 pub mod SumsOfValues
 pub mod TensorsOfValues

@@ -5,10 +5,11 @@
 #![tactic(auto)]
 
 mod common;
+mod gather;
 mod multiples;
 mod products;
 mod sums;
 
 pub use multiples::{divide, negate};
-pub use products::tensor;
+pub use products::{tensor, times};
 pub use sums::{add, sub};
