@@ -21,7 +21,3 @@ fault_later need needs Memory room all = All-cons HasRoom need needs room all
 pub tests_later : {T : Type 0} (need : Need) (needs : List Need) (result : Result T ComboFault) → HasRoom need → TestsRoom needs result → TestsRoom (need ∷ needs) result
 tests_later need needs (Ok value) room all = All-cons HasRoom need needs room all
 tests_later need needs (Err fault) room is = fault_later need needs fault room is
-
--- two needs with room
-pub both_have_room : (first second : Need) → HasRoom first → HasRoom second → All HasRoom (first ∷ second ∷ [])
-both_have_room first second p q = All-cons HasRoom first (second ∷ []) p (All-cons HasRoom second [] q (λ k d lt. absurd (omega arith)))

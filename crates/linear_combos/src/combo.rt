@@ -253,15 +253,7 @@ impl Combo {
     {
         let num = by.num();
         let den = by.den() as u128;
-        test(Need::Denominator {
-            left: a.den,
-            right: den,
-        })?;
-        test(Need::Product {
-            left: a.norm,
-            right: num.unsigned_abs(),
-            shift: 0,
-        })?;
+        test_product(a.den, den, a.norm, num.unsigned_abs())?;
         match combine(alloc, a.rank, a.den * den, &a.terms, num, &[], 0) {
             Ok(multiple) => Ok(multiple),
             Err(_) => Err(ComboFault::Memory),

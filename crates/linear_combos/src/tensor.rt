@@ -11,8 +11,8 @@ use hopf_num::{OutOfMemory, product};
 // their keys: as many steps as there are pairs.
 pub(crate) fn add_products(tensor: &mut Unreduced, a: &Combo, b: &Combo) -> Result<(), OutOfMemory>
     requires empty { tensor.old.terms ≡ [] }
-    requires left { AreTerms a.now.rank a.now.terms }
-    requires right { AreTerms b.now.rank b.now.terms }
+    requires first { AreTerms a.now.rank a.now.terms }
+    requires second { AreTerms b.now.rank b.now.terms }
     requires rank { a.now.rank + b.now.rank ≡ tensor.old.rank }
     requires most { a.now.rank + b.now.rank ≤ 3 }
     requires room { norm_of a.now.terms * norm_of b.now.terms < 2 ^ 127 }
@@ -29,8 +29,8 @@ pub(crate) fn add_products(tensor: &mut Unreduced, a: &Combo, b: &Combo) -> Resu
 // Adds the products of one term with each term of the second combination.
 fn add_row(tensor: &mut Unreduced, a: &Combo, left: usize, b: &Combo) -> Result<(), OutOfMemory>
     requires in_left { left < length a.now.terms }
-    requires left { AreTerms a.now.rank a.now.terms }
-    requires right { AreTerms b.now.rank b.now.terms }
+    requires first { AreTerms a.now.rank a.now.terms }
+    requires second { AreTerms b.now.rank b.now.terms }
     requires rank { a.now.rank + b.now.rank ≡ tensor.old.rank }
     requires most { a.now.rank + b.now.rank ≤ 3 }
     requires room { norm_of a.now.terms * norm_of b.now.terms < 2 ^ 127 }
@@ -55,8 +55,8 @@ fn add_product(
 ) -> Result<(), OutOfMemory>
     requires in_left { left < length a.now.terms }
     requires in_right { right < length b.now.terms }
-    requires left { AreTerms a.now.rank a.now.terms }
-    requires right { AreTerms b.now.rank b.now.terms }
+    requires first { AreTerms a.now.rank a.now.terms }
+    requires second { AreTerms b.now.rank b.now.terms }
     requires rank { a.now.rank + b.now.rank ≡ tensor.old.rank }
     requires most { a.now.rank + b.now.rank ≤ 3 }
     requires room { norm_of a.now.terms * norm_of b.now.terms < 2 ^ 127 }

@@ -14,7 +14,7 @@ pub push-requires-clause-last : goal.push-requires-clause-last
 push-requires-clause-last c =
     let key = c.followed_by-key.ensures ∙ ap (λ k. k ++ c.key_at-2.result.now) c.key_at.ensures ∙ ap (λ k. (term_at c.args.a.now.terms c.args.left).1 ++ k) c.key_at-2.ensures in
     subst (λ k. IsGapFor c.args.tensor.now.terms k (length c.args.tensor.now.terms)) (sym key)
-    (product_gap _ _ _ _ _ c.requires.products c.requires.in_left c.requires.in_right _ _ c.requires.left c.requires.right)
+    (product_gap _ _ _ _ _ c.requires.products c.requires.in_left c.requires.in_right _ _ c.requires.first c.requires.second)
 
 pub push-requires-clause-room : goal.push-requires-clause-room
 push-requires-clause-room c =
