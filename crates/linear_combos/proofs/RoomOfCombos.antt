@@ -1,6 +1,5 @@
 -- The room of sums and products of combinations, tested need by need.
-use Rattle.std.proofs.Common.{◌≡◌, List, [], ◌∷◌, Result, Ok, Err, inl, inr, refl, sym, subst, arith}
-use Rattle.std.specs.Prelude.{All}
+use Rattle.std.proofs.Common.{◌≡◌, List, ◌∷◌, Result, Ok, Err, inl, inr, refl, sym, subst}
 use Rattle.std.proofs.lemmas.List.Elements.{All-cons}
 use Rattle.hopf_num.specs.Room.{HasRoom}
 use Rattle.hopf_num.specs.declared.room.Need.{Need}

@@ -12,7 +12,7 @@ use Rattle.std.proofs.lemmas.List.{take_all}
 use Rattle.std.proofs.lemmas.List.Sums.{sum_by_more, sum_by-take-le}
 use Rattle.hopf_num.proofs.Ring.{*ℤ-+ℤ, *ℤ_assoc}
 use Rattle.linear_combos.specs.Readings.{Terms}
-use Rattle.linear_combos.specs.Combos.{Combination, key_cmp, term_at, norm_of, weighed, HasKey, IsGapFor, AreTerms, AddsTerm, IsTensor}
+use Rattle.linear_combos.specs.Combos.{Combination, key_cmp, term_at, norm_of, weighed, IsGapFor, AreTerms, AddsTerm, IsTensor}
 use Rattle.linear_combos.specs.Merges.{IsOver, IsPairBefore, AreProducts}
 use Rattle.linear_combos.proofs.Coefficients.{Codes}
 use Rattle.linear_combos.proofs.Merging.{last_gap, weighed-more}
