@@ -9,6 +9,8 @@ mod gather;
 mod multiples;
 mod products;
 mod sums;
+#[cfg(test)]
+mod tests;
 
 pub use multiples::{divide, negate};
 pub use products::{tensor, times};
