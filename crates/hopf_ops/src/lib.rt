@@ -5,6 +5,7 @@
 #![tactic(auto)]
 
 mod common;
+mod gather;
 mod multiples;
 mod products;
 mod sums;
