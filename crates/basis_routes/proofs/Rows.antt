@@ -57,3 +57,12 @@ pass_room (need ∷ needs) h = All-cons Passes (Room need) (room_checks needs) (
 
 pub refused_room : (needs : List Need) (told : Need) → IsFirstWithoutRoom needs told → IsRefusalOf (room_checks needs) (TooLarge told)
 refused_room needs told h = inr (failing_room needs told h)
+
+last_passes : (checks : List Check) (check : Check) → AllPass (checks ++ check ∷ []) → Passes check
+unfolding AllPass
+last_passes [] check h = h.0
+last_passes (first ∷ checks) check h = last_passes checks check h.1
+
+-- the last check of a row that passes
+pub passes_last : (checks : List Check) (check : Check) → All Passes (checks ++ check ∷ []) → Passes check
+passes_last checks check h = last_passes checks check (all_pass (checks ++ check ∷ []) h)

@@ -32,6 +32,16 @@ impl Model for Value {
 }
 
 impl Value {
+    /// The scalar that a number is.
+    pub fn scalar(alloc: Global, number: &Fraction) -> Result<Value, OutOfMemory>
+        ensures bases { IfOk result (λ v. v.bases ≡ []) }
+        ensures number { IfOk result (λ v. ratio_of v ≡ number.now) }
+    {
+        let whole = Combo::term(alloc, number.num(), Key::none())?;
+        let combo = whole.over(number.den() as u128);
+        Ok(Value::over(Bases::new(&[]), combo))
+    }
+
     /// The element of an index.
     pub fn element(alloc: Global, basis: BasisId, code: Code) -> Result<Value, OutOfMemory>
         requires { IsIndexWithin basis code }

@@ -1,14 +1,15 @@
 -- Combinations of rank 0: at most one term, a number.
 use Rattle.std.proofs.Common.{◌≡◌, ℕ, zero, suc, ◌^◌, ◌<◌, ◌≤◌, ◌⊎◌, inl, inr, List, [], ◌∷◌, length, refl, sym, ◌∙◌, ap, subst, arith, unsigned_abs}
-use Rattle.std.proofs.Math.IntN.{ℤ, pos, *ℤ-one, one}
+use Rattle.std.proofs.Math.IntN.{ℤ, pos, negsuc, ◌*ℤ◌, *ℤ_comm, *ℤ-one, one}
 use Rattle.std.proofs.Math.Nat.{one-dvd}
 use Rattle.std.proofs.lemmas.Int.{ints}
 use Rattle.std.proofs.lemmas.Nat.Gcd.{dvd_refl}
 use Rattle.std.specs.declared.cmp.Ordering.TheVariants.{Less, Equal}
 use Rattle.std.specs.Int.{◌∣◌}
-use Rattle.hopf_num.specs.Fractions.{IsFraction}
-use Rattle.linear_combos.specs.Combos.{AreTerms, IsLowest, norm_of, key_cmp, term_at}
-use Rattle.linear_combos.specs.Readings.{Terms, leaf, numerator}
+use Rattle.hopf_num.specs.Fractions.{Ratio, IsFraction}
+use Rattle.hopf_num.proofs.LowestTerms.{fraction-unique}
+use Rattle.linear_combos.specs.Combos.{Combination, AreTerms, IsLowest, IsCanonical, IsMultiple, norm_of, key_cmp, term_at, terms_of, weighed}
+use Rattle.linear_combos.specs.Readings.{Terms, leaf, occurrence, numerator}
 use Rattle.hopf_laws.specs.declared.bases.BasisId.{BasisId}
 use Rattle.hopf_laws.specs.Bases.{rows_of}
 use Rattle.hopf_laws.specs.Values.{Expansion, IsValue, ratio_of}
@@ -74,7 +75,7 @@ fraction-scalar den ts h lowest = record {
           subst (λ n. d ∣ unsigned_abs n) (ap (λ us. (term_at us 0).0) (sym some) ∙ ap (λ k. (term_at ts k).0) (sym only)) p
     ]
 
-no_bases : (bases : List BasisId) → length bases ≡ 0 → bases ≡ []
+pub no_bases : (bases : List BasisId) → length bases ≡ 0 → bases ≡ []
 no_bases [] e = refl
 no_bases (basis ∷ bases) e = absurd (omega arith)
 
@@ -84,3 +85,25 @@ ratio-scalar v is none =
     let terms : AreTerms 0 v.combination.terms = subst (λ n. AreTerms n v.combination.terms) (is.rank ∙ none) is.canonical.ordered in
     (λ i. record { num = numerator (leaf (rows_of (no_bases v.bases none i)) v.combination.den v.combination.terms) []; den = v.combination.den })
     ∙ (λ i. record { num = numerator-scalar v.combination.den v.combination.terms terms i; den = v.combination.den })
+
+-- a number as terms reads as the number
+weighed-number : (n : ℤ) → weighed (λ key. pos (occurrence [] key [])) (terms_of n []) ≡ n
+unfolding one
+weighed-number (pos zero) = refl
+weighed-number (pos (suc n)) = omega (arith, ints, *ℤ-one (pos (suc n)))
+weighed-number (negsuc n) = omega (arith, ints, *ℤ-one (negsuc n))
+
+-- a numerator over a denominator, brought to lowest terms, is the fraction that it was
+pub number-over : (number : Ratio) (whole c : Combination) → IsFraction number → whole ≡ record { rank = 0; den = 1; terms = terms_of number.num [] }
+    → IsMultiple whole (record { num = pos 1; den = number.den }) c → IsCanonical c.rank c.den c.terms
+    → record { num = numerator (leaf [] c.den c.terms) []; den = c.den } ≡ number
+unfolding one
+number-over number whole c is e over canonical =
+    let over' = subst (λ (x : Combination). IsMultiple x (record { num = pos 1; den = number.den }) c) e over in
+    let terms : AreTerms 0 c.terms = subst (λ n. AreTerms n c.terms) over'.rank canonical.ordered in
+    let reads : number_of c.terms *ℤ pos number.den ≡ number.num *ℤ pos c.den =
+    (λ i. sym (numerator-scalar c.den c.terms terms) i *ℤ sym (*ℤ_comm (pos 1) (pos number.den) ∙ *ℤ-one (pos number.den)) i)
+    ∙ over'.weighs (λ key. pos (occurrence [] key []))
+    ∙ ap (λ z. z *ℤ pos c.den) (*ℤ-one _ ∙ weighed-number number.num) in
+    (λ i. record { num = numerator-scalar c.den c.terms terms i; den = c.den })
+    ∙ fraction-unique (record { num = number_of c.terms; den = c.den }) number (fraction-scalar c.den c.terms terms canonical.lowest) is reads

@@ -1,6 +1,7 @@
 pub mod Gathering
 pub mod MultiplesOfValues
 pub mod ProductsOfKeys
+pub mod ProductsOfValues
 pub mod Rooms
 pub mod SumsOfValues
 pub mod TensorsOfValues

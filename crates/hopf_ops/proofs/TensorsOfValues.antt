@@ -1,8 +1,8 @@
 -- The combination of a tensor product as a value.
-use Rattle.std.proofs.Common.{◌≡◌, ℕ, zero, suc, ◌+◌, ◌*◌, ◌≤◌, ◌<◌, List, [], ◌∷◌, ◌++◌, length, map, take, drop, refl, sym, ◌∙◌, ap, subst, arith}
+use Rattle.std.proofs.Common.{◌≡◌, ℕ, zero, suc, ◌+◌, ◌*◌, ◌≤◌, ◌<◌, ◌⊎◌, inl, inr, List, [], ◌∷◌, ◌++◌, length, map, take, drop, refl, sym, ◌∙◌, ap, subst, arith}
 use Rattle.std.proofs.Math.IntN.{ℤ, pos, ◌*ℤ◌, pos-*ℤ-pos}
 use Rattle.std.proofs.Math.Nat.{mul_assoc}
-use Rattle.std.proofs.lemmas.List.{map-append, length-append, length-map}
+use Rattle.std.proofs.lemmas.List.{map-append, length-append, length-map, append-nil}
 use Rattle.linear_combos.specs.Lists.{one_if}
 use Rattle.linear_combos.specs.Combos.{Combination, IsTensor, AreTerms, HasKey, weighed, term_at}
 use Rattle.linear_combos.specs.Indices.{AreIndices, total_degree, degree_of}
@@ -13,7 +13,8 @@ use Rattle.linear_combos.proofs.Linearity.{weighed-times}
 use Rattle.hopf_laws.specs.declared.bases.BasisId.{BasisId}
 use Rattle.hopf_laws.specs.Bases.{rows_of, row_of, least_limit}
 use Rattle.hopf_laws.specs.Values.{Expansion, IsValue, reading_of, degree_of_value}
-use Rattle.basis_routes.proofs.Degrees.{degree-le-greatest}
+use Rattle.basis_routes.proofs.Degrees.{degree-le-greatest, degree_within}
+use Rattle.hopf_laws.proofs.Scalars.{no_bases}
 use Rattle.hopf_ops.specs.Answers.{IsOver}
 
 -- keys put together
@@ -95,3 +96,14 @@ tensor_reads a b c ha is ps long =
     ∙ is.weighs (λ key. pos (occurrence (rows ++ rows') key ps))
     ∙ ap (λ z. z *ℤ pos c.den) (weighed-tensor rows rows' a.combination.terms b.combination.terms ps terms size)
     ∙ ap (λ n. (numerator (reading_of a) (take n ps) *ℤ numerator (reading_of b) (drop n ps)) *ℤ pos c.den) kinds)
+
+-- a scalar adds nothing to the degree, and no basis
+pub scalar_within : (a b : Expansion) → IsValue a → IsValue b → (length a.bases ≡ 0) ⊎ (length b.bases ≡ 0) → degree_of_value a + degree_of_value b ≤ least_limit (a.bases ++ b.bases)
+scalar_within a b ha hb (inl none) =
+    let bases = no_bases a.bases none in
+    let degree : degree_of_value a ≤ 0 = subst (λ bs. degree_of_value a ≤ least_limit bs) bases (degree_within a ha) in
+    subst (λ bs. degree_of_value a + degree_of_value b ≤ least_limit (bs ++ b.bases)) (sym bases) (omega (arith, degree, degree_within b hb))
+scalar_within a b ha hb (inr none) =
+    let bases = no_bases b.bases none in
+    let degree : degree_of_value b ≤ 0 = subst (λ bs. degree_of_value b ≤ least_limit bs) bases (degree_within b hb) in
+    subst (λ bs. degree_of_value a + degree_of_value b ≤ least_limit (a.bases ++ bs)) (sym bases) (rw (append-nil a.bases) (omega (arith, degree, degree_within a ha)))

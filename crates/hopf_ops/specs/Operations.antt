@@ -45,10 +45,13 @@ abbrev pub product_room : ℕ → Expansion → Expansion → List Check
 product_room shift a b =
     room_checks (product_rule a.combination.den b.combination.den (norm_of a.combination.terms) (norm_of b.combination.terms) shift)
 
+-- a product component by component
+abbrev pub component_checks : Expansion → Expansion → List Check
+component_checks a b =
+    common_checks (degree_of_value a + degree_of_value b) a b ++ product_room (5 * (degree_of_value a + degree_of_value b)) a b
+
 abbrev pub product_checks : Expansion → Expansion → List Check
-product_checks a b =
-    if has_scalar a b then product_room 0 a b
-    else common_checks (degree_of_value a + degree_of_value b) a b ++ product_room (5 * (degree_of_value a + degree_of_value b)) a b
+product_checks a b = if has_scalar a b then product_room 0 a b else component_checks a b
 
 abbrev pub product_bases : Expansion → Expansion → List BasisId
 product_bases a b = if has_scalar a b then a.bases ++ b.bases else joined a.bases b.bases

@@ -40,3 +40,11 @@ pub(crate) fn over_bases(bases: Bases, combo: Result<Combo, ComboFault>) -> Resu
         Err(ComboFault::Memory) => Err(Refusal::Memory),
     }
 }
+
+// The denominator of a value, from 1 to 2^127 - 1.
+pub(crate) fn den_of(a: &Value) -> u128
+    ensures den { result ≡ a.now.combination.den }
+    ensures value { IsValue a.now }
+{
+    a.combo().den() as u128
+}

@@ -11,5 +11,5 @@ mod products;
 mod sums;
 
 pub use multiples::{divide, negate};
-pub use products::tensor;
+pub use products::{tensor, times};
 pub use sums::{add, sub};

@@ -1,13 +1,16 @@
 //! Tensor products, and products.
-ghost use Rattle.std.specs.Prelude.{◌≡◌, ◌+◌, ◌≤◌, ◌++◌, length, IfOk};
-ghost use Rattle.linear_combos.specs.Readings.{tensor as tensor_of};
+ghost use Rattle.std.specs.Prelude.{◌≡◌, ◌+◌, ◌*◌, ◌≤◌, [], ◌++◌, length, All, IfOk};
+ghost use Rattle.linear_combos.specs.Readings.{product as multiply, tensor as tensor_of};
 ghost use Rattle.hopf_laws.specs.Bases.{least_limit};
 ghost use Rattle.hopf_laws.specs.Values.{Expands, reading_of, degree_of_value};
-ghost use Rattle.basis_routes.specs.Checks.{Tests};
-ghost use Rattle.hopf_ops.specs.Operations.{product_room, tensor_checks};
+ghost use Rattle.basis_routes.specs.Checks.{Passes, Tests};
+ghost use Rattle.hopf_ops.specs.Operations.{product_room, component_checks, product_checks, product_bases, product_of, tensor_checks};
+ghost use Rattle.basis_routes.specs.Joins.{joined};
 
-use crate::common::over_bases;
+use crate::common::{common_bases, den_of, over_bases};
+use crate::gather::gathered_products;
 use basis_routes::{Bases, Check, Refusal, Value};
+use hopf_num::Need;
 use linear_combos::Combo;
 use std::alloc::Global;
 
@@ -31,6 +34,74 @@ pub fn tensor(alloc: Global, a: &Value, b: &Value) -> Result<Value, Refusal>
     }
     .test()?;
     tensor_over(alloc, a, b, bases)
+}
+
+/// The product. One with a scalar is its multiple; other values multiply component by component.
+///
+/// With a scalar the only checks are that the product of the denominators and that of the norms have
+/// room (`TooLarge`). Else its checks are, in order: the ranks are equal (`Rank`), each two components
+/// have a join (`Mixed`), the degrees add to at most the least limit of the joins (`Degree`), and the
+/// product of the denominators and that of the norms times 2^(5n), n the sum of the degrees, have room
+/// (`TooLarge`). The cost is that of one product of basis elements for each two terms, and a search for
+/// each of its terms.
+pub fn times(alloc: Global, a: &Value, b: &Value) -> Result<Value, Refusal>
+    ensures checks { Tests (product_checks a.now b.now) result }
+    ensures value { IfOk result (Expands (product_bases a.now b.now) (product_of a.now b.now)) }
+{
+    if a.rank() == 0 || b.rank() == 0 {
+        return tensor_over(alloc, a, b, a.bases().followed_by(b.bases()));
+    }
+    product_by_components(alloc, a, b)
+}
+
+// The product component by component.
+fn product_by_components(alloc: Global, a: &Value, b: &Value) -> Result<Value, Refusal>
+    requires some { 1 ≤ length a.now.bases }
+    ensures checks { Tests (component_checks a.now b.now) result }
+    ensures value { IfOk result (Expands (joined a.now.bases b.now.bases) (multiply (reading_of a.now) (reading_of b.now))) }
+{
+    let degree = a.degree() + b.degree();
+    let bases = common_bases(a, b, degree)?;
+    test_room(a, b, 5 * degree)?;
+    multiplied(alloc, a, b, bases)
+}
+
+// Whether the product of two values, whose norm may grow by 2^shift, has room.
+fn test_room(a: &Value, b: &Value, shift: u32) -> Result<(), Refusal>
+    requires { shift ≤ 120 }
+    ensures { Tests (product_room shift a.now b.now) result }
+{
+    Check::Room {
+        need: Need::Denominator {
+            left: den_of(a),
+            right: den_of(b),
+        },
+    }
+    .test()?;
+    Check::Room {
+        need: Need::Product {
+            left: a.combo().norm(),
+            right: b.combo().norm(),
+            shift,
+        },
+    }
+    .test()
+}
+
+// The product of two values of one rank, where it has room.
+fn multiplied(alloc: Global, a: &Value, b: &Value, bases: Bases) -> Result<Value, Refusal>
+    requires some { 1 ≤ length bases }
+    requires left { a.now.bases ≡ bases }
+    requires right { b.now.bases ≡ bases }
+    requires degree { degree_of_value a.now + degree_of_value b.now ≤ least_limit bases }
+    requires room { All Passes (product_room (5 * (degree_of_value a.now + degree_of_value b.now)) a.now b.now) }
+    ensures checks { Tests [] result }
+    ensures value { IfOk result (Expands bases (multiply (reading_of a.now) (reading_of b.now))) }
+{
+    let Ok(product) = gathered_products(alloc, &bases, a.combo(), b.combo()) else {
+        return Err(Refusal::Memory);
+    };
+    Ok(Value::over(bases, product.over(den_of(a) * den_of(b))))
 }
 
 // The tensor product over the bases of both values.

@@ -5,7 +5,7 @@ use Rattle.std.proofs.Math.Nat.{one-dvd, mul-div_cancel', mul-dvd-mul_left, dvd_
 use Rattle.std.specs.Int.{◌∣◌, IsGcd}
 use Rattle.std.specs.List.{insert}
 use Rattle.std.proofs.lemmas.Int.{ints}
-use Rattle.std.proofs.lemmas.Nat.Gcd.{dvd_refl, dvd_trans, le_of_dvd}
+use Rattle.std.proofs.lemmas.Nat.Gcd.{dvd_trans, le_of_dvd}
 use Rattle.std.proofs.lemmas.List.{take_all, drop_all, length_push, get_or_push, get_or_append_left, get_or-map, get_or_default, length-map, length-append, length-take-le, length-drop}
 use Rattle.std.proofs.lemmas.List.Edits.{map_over_more}
 use Rattle.std.proofs.lemmas.List.Sums.{sum_by-cons, sum_by-insert}
@@ -23,10 +23,6 @@ push-insert ts n key = simp (take_all (length ts) ts (omega arith), drop_all (le
 -- the last two factors of three change places
 pub times_turned : (a b c : ℤ) → (a *ℤ b) *ℤ c ≡ (a *ℤ c) *ℤ b
 times_turned a b c = sym (*ℤ_assoc a b c) ∙ ap (λ z. a *ℤ z) (*ℤ_comm b c) ∙ *ℤ_assoc a c b
-
--- before the first numerator the denominator is the common divisor
-pub IsCommon-none : (den : ℕ) → IsCommon den [] den
-IsCommon-none den = record { divides_den = dvd_refl den; divides = λ i lt. absurd (omega arith); greatest = λ d p each. p }
 
 -- the common divisor with one numerator more
 pub IsCommon-push : (den : ℕ) (ts : Terms) (n : ℤ) (key : List (List ℕ)) (g h : ℕ) → IsCommon den ts g → IsGcd (unsigned_abs n) g h

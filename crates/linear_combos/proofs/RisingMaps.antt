@@ -7,8 +7,8 @@ use Rattle.std.proofs.lemmas.Bool.Decides.{nat_tests}
 use Rattle.std.proofs.lemmas.List.{length-map}
 use Rattle.linear_combos.specs.Lists.{is_among, count}
 use Rattle.linear_combos.specs.Words.{greatest}
-use Rattle.linear_combos.specs.Standardisation.{count_below, count_same, standardise_after, rank_in, pack}
-use Rattle.linear_combos.specs.Descents.{places_where, longer_first, descent_composition}
+use Rattle.linear_combos.specs.Standardisation.{standardise_after, rank_in, pack}
+use Rattle.linear_combos.specs.Descents.{places_where, descent_composition}
 use Rattle.linear_combos.specs.Trees.{node, before_last, after_last, decreasing_within, decreasing_tree}
 
 -- f rises strictly from each number with P to each greater one with P

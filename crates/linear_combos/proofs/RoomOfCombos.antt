@@ -1,4 +1,4 @@
--- The room of sums and multiples of combinations, tested need by need.
+-- The room of sums and products of combinations, tested need by need.
 use Rattle.std.proofs.Common.{◌≡◌, List, ◌∷◌, Result, Ok, Err, inl, inr, refl, sym, subst}
 use Rattle.std.proofs.lemmas.List.Elements.{All-cons}
 use Rattle.hopf_num.specs.Room.{HasRoom}
@@ -12,7 +12,7 @@ pub fault_first : (need : Need) (needs : List Need) (fault : ComboFault) → (fa
 fault_first need needs fault tested = subst (IsFaultOf (need ∷ needs)) (sym tested.0) (inl (refl, tested.1))
 
 -- after a need with room the others decide
-fault_later : (need : Need) (needs : List Need) (fault : ComboFault) → HasRoom need → IsFaultOf needs fault → IsFaultOf (need ∷ needs) fault
+pub fault_later : (need : Need) (needs : List Need) (fault : ComboFault) → HasRoom need → IsFaultOf needs fault → IsFaultOf (need ∷ needs) fault
 fault_later need needs (TooLarge told) room first = inr (room, first)
 fault_later need needs Memory room all = All-cons HasRoom need needs room all
 

@@ -12,7 +12,7 @@ use Rattle.std.proofs.lemmas.List.{take_all}
 use Rattle.std.proofs.lemmas.List.Sums.{sum_by_more, sum_by-take-le}
 use Rattle.hopf_num.proofs.Ring.{*ℤ-+ℤ, *ℤ_assoc}
 use Rattle.linear_combos.specs.Readings.{Terms}
-use Rattle.linear_combos.specs.Combos.{Combination, key_cmp, term_at, norm_of, weighed, HasKey, IsGapFor, AreTerms, AddsTerm, IsTensor}
+use Rattle.linear_combos.specs.Combos.{Combination, key_cmp, term_at, norm_of, weighed, IsGapFor, AreTerms, AddsTerm, IsTensor}
 use Rattle.linear_combos.specs.Merges.{IsOver, IsPairBefore, AreProducts}
 use Rattle.linear_combos.proofs.Coefficients.{Codes}
 use Rattle.linear_combos.proofs.Merging.{last_gap, weighed-more}
@@ -44,16 +44,6 @@ norm-more a i lt = sum_by_more (λ (t : ℤ × List (List ℕ)). unsigned_abs t.
 -- the norm of a part
 norm-part : (a : Terms) (i : ℕ) → norm_of (take i a) ≤ norm_of a
 norm-part a i = sum_by-take-le (λ (t : ℤ × List (List ℕ)). unsigned_abs t.0) a i
-
--- before the first product there are no terms
-pub no_products : (a b : Terms) → AreProducts a b 0 0 []
-no_products a b = record {
-  in_left = omega arith;
-  in_right = omega arith;
-  weighs = λ w. omega (arith, ints, *ℤ-zero (term_at a 0).0);
-  norm = omega arith;
-  keys = λ key has. absurd (omega (arith, has.1));
-}
 
 -- a pair before a place is before the next one
 pair_later : (a b : Terms) (i j : ℕ) (key : Codes) → IsPairBefore a b i j key → IsPairBefore a b i (j + 1) key

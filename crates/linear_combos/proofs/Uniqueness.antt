@@ -11,7 +11,7 @@ use Rattle.linear_combos.specs.Indices.{AreIndices}
 use Rattle.linear_combos.specs.ClassBases.{AreClassBases, representatives}
 use Rattle.linear_combos.specs.Laws.{UniquenessLaw}
 use Rattle.linear_combos.specs.Readings.{Terms, Reading, leaf, occurrence, numerator, denominator, AgreeAt}
-use Rattle.linear_combos.specs.Combos.{Combination, IsCanonical, IsLowest, AreTerms, HasKey, key_cmp, term_at, weighed}
+use Rattle.linear_combos.specs.Combos.{Combination, IsCanonical, IsLowest, AreTerms, HasKey, key_cmp, term_at}
 use Rattle.hopf_num.proofs.CommonDivisors.{gcd-exists, dvd-times_coprime, IsGcd-quotients}
 use Rattle.hopf_num.proofs.Ring.{+ℤ-*ℤ, *ℤ_assoc, *ℤ-pos_cancel}
 use Rattle.linear_combos.proofs.Coefficients.{Codes, counts, coefficient, IsTermOf, Each, Rising, each_from, rising_from, same_terms, weighed_same}

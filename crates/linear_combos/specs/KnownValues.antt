@@ -1,5 +1,5 @@
 -- Known values of the definitions, by evaluation. Each tells left from right, or a basis from its inverse or transposed twin.
-use Rattle.std.specs.Prelude.{◌≡◌, ℕ, Bool, true, false, ℤ, pos, negsuc, List, [], ◌∷◌, refl}
+use Rattle.std.specs.Prelude.{◌≡◌, true, false, pos, negsuc, [], ◌∷◌, refl}
 use Rattle.linear_combos.specs.Words.{all_shuffles, word_pieces, words_of}
 use Rattle.linear_combos.specs.Standardisation.{standardise, pack, inverse}
 use Rattle.linear_combos.specs.Descents.{descents, descent_composition, descent_set, is_finer, word_of_composition}

@@ -66,6 +66,13 @@ pub record IsSignedSum (a b : Combination) (sign : ℤ) (c : Combination) : Type
       ≡ (weighed weight a.terms *ℤ pos b.den +ℤ (weighed weight b.terms *ℤ sign) *ℤ pos a.den) *ℤ pos c.den
   pub keys : (key : List (List ℕ)) → HasKey c.terms key → HasKey a.terms key ⊎ HasKey b.terms key
 
+-- two combinations whose keys in a row have at most 3 codes and whose norms have a product with room
+pub record AreFactors (a b : Combination) : Type 0 where
+  pub first : AreTerms a.rank a.terms
+  pub second : AreTerms b.rank b.terms
+  pub short : a.rank + b.rank ≤ 3
+  pub room : norm_of a.terms * norm_of b.terms < 2 ^ 127
+
 -- the key is one of the first list followed by one of the second, at places that come before these
 pub record IsPairBefore (a b : Terms) (i j : ℕ) (key : List (List ℕ)) : Type 0 where
   pub left : ℕ

@@ -3,7 +3,7 @@ ghost use Rattle.std.specs.Prelude.{◌≡◌, ◌≢◌, ◌↔◌, ◌+◌, �
 ghost use Rattle.std.specs.List.{insert};
 ghost use Rattle.hopf_num.specs.Divisors.{IsLcm};
 ghost use Rattle.hopf_num.specs.Room.{IsNeed, product_rule, sum_rule};
-ghost use Rattle.hopf_num.specs.declared.room.Need.TheVariants.{CommonDenominator, Product, Sum};
+ghost use Rattle.hopf_num.specs.declared.room.Need.TheVariants.{Sum, CommonDenominator};
 ghost use Rattle.linear_combos.specs.Combos.{IsCanonical, IsGapFor, AddsTerm, IsSum, IsDifference, IsMultiple, IsTensor, AreTerms, norm_of, term_at, terms_of};
 ghost use Rattle.linear_combos.specs.Merges.{IsCombined, IsOver, IsSignedSum};
 ghost use Rattle.linear_combos.specs.Faults.{TestsRoom, IsTested};
@@ -251,12 +251,13 @@ impl Combo {
         ensures multiple { IfOk result (λ c. IsMultiple a.now by.now c) }
         ensures room { TestsRoom (product_rule a.now.den by.now.den (norm_of a.now.terms) (unsigned_abs by.now.num) 0) result }
     {
+        let num = by.num();
         let den = by.den() as u128;
-        test(Need::Denominator {
-            left: a.den,
-            right: den,
-        })?;
-        Combo::scale_over(alloc, a, by, a.den * den)
+        test_product(a.den, den, a.norm, num.unsigned_abs())?;
+        match combine(alloc, a.rank, a.den * den, &a.terms, num, &[], 0) {
+            Ok(multiple) => Ok(multiple),
+            Err(_) => Err(ComboFault::Memory),
+        }
     }
 
     /// The combination divided by a positive number. It takes no memory.
@@ -368,25 +369,6 @@ impl Combo {
         );
         match sum {
             Ok(sum) => Ok(sum),
-            Err(_) => Err(ComboFault::Memory),
-        }
-    }
-
-    // The product with a fraction, over the product of the denominators.
-    fn scale_over(alloc: Global, a: &Combo, by: &Fraction, den: u128) -> Result<Combo, ComboFault>
-        requires product { den ≡ a.now.den * by.now.den }
-        requires small { den < 2 ^ 127 }
-        ensures multiple { IfOk result (λ c. IsMultiple a.now by.now c) }
-        ensures room { TestsRoom (Product (norm_of a.now.terms) (unsigned_abs by.now.num) 0 ∷ []) result }
-    {
-        let num = by.num();
-        test(Need::Product {
-            left: a.norm,
-            right: num.unsigned_abs(),
-            shift: 0,
-        })?;
-        match combine(alloc, a.rank, den, &a.terms, num, &[], 0) {
-            Ok(multiple) => Ok(multiple),
             Err(_) => Err(ComboFault::Memory),
         }
     }

@@ -1,7 +1,7 @@
 //! The products of each term of one combination with each of another.
-ghost use Rattle.std.specs.Prelude.{◌≡◌, ◌+◌, ◌*◌, ◌*ℤ◌, ◌^◌, ◌<◌, ◌≤◌, [], length, unsigned_abs, OnOk};
-ghost use Rattle.linear_combos.specs.Combos.{AreTerms, norm_of, term_at};
-ghost use Rattle.linear_combos.specs.Merges.{AreProducts};
+ghost use Rattle.std.specs.Prelude.{◌≡◌, ◌+◌, ◌*ℤ◌, ◌^◌, ◌<◌, [], length, unsigned_abs, OnOk};
+ghost use Rattle.linear_combos.specs.Combos.{term_at};
+ghost use Rattle.linear_combos.specs.Merges.{AreFactors, AreProducts};
 
 use crate::Combo;
 use crate::lowest::Unreduced;
@@ -11,11 +11,8 @@ use hopf_num::{OutOfMemory, product};
 // their keys: as many steps as there are pairs.
 pub(crate) fn add_products(tensor: &mut Unreduced, a: &Combo, b: &Combo) -> Result<(), OutOfMemory>
     requires empty { tensor.old.terms ≡ [] }
-    requires left { AreTerms a.now.rank a.now.terms }
-    requires right { AreTerms b.now.rank b.now.terms }
+    requires factors { AreFactors a.now b.now }
     requires rank { a.now.rank + b.now.rank ≡ tensor.old.rank }
-    requires most { a.now.rank + b.now.rank ≤ 3 }
-    requires room { norm_of a.now.terms * norm_of b.now.terms < 2 ^ 127 }
     ensures products { OnOk result (AreProducts a.now.terms b.now.terms (length a.now.terms) 0 tensor.new.terms) }
     ensures same_rank { tensor.new.rank ≡ tensor.old.rank }
     ensures same_den { tensor.new.den ≡ tensor.old.den }
@@ -29,11 +26,8 @@ pub(crate) fn add_products(tensor: &mut Unreduced, a: &Combo, b: &Combo) -> Resu
 // Adds the products of one term with each term of the second combination.
 fn add_row(tensor: &mut Unreduced, a: &Combo, left: usize, b: &Combo) -> Result<(), OutOfMemory>
     requires in_left { left < length a.now.terms }
-    requires left { AreTerms a.now.rank a.now.terms }
-    requires right { AreTerms b.now.rank b.now.terms }
+    requires factors { AreFactors a.now b.now }
     requires rank { a.now.rank + b.now.rank ≡ tensor.old.rank }
-    requires most { a.now.rank + b.now.rank ≤ 3 }
-    requires room { norm_of a.now.terms * norm_of b.now.terms < 2 ^ 127 }
     requires products { AreProducts a.now.terms b.now.terms left 0 tensor.old.terms }
     ensures products { OnOk result (AreProducts a.now.terms b.now.terms (left + 1) 0 tensor.new.terms) }
     ensures same_rank { tensor.new.rank ≡ tensor.old.rank }
@@ -55,11 +49,8 @@ fn add_product(
 ) -> Result<(), OutOfMemory>
     requires in_left { left < length a.now.terms }
     requires in_right { right < length b.now.terms }
-    requires left { AreTerms a.now.rank a.now.terms }
-    requires right { AreTerms b.now.rank b.now.terms }
+    requires factors { AreFactors a.now b.now }
     requires rank { a.now.rank + b.now.rank ≡ tensor.old.rank }
-    requires most { a.now.rank + b.now.rank ≤ 3 }
-    requires room { norm_of a.now.terms * norm_of b.now.terms < 2 ^ 127 }
     requires products { AreProducts a.now.terms b.now.terms left right tensor.old.terms }
     ensures products { OnOk result (AreProducts a.now.terms b.now.terms left (right + 1) tensor.new.terms) }
     ensures same_rank { tensor.new.rank ≡ tensor.old.rank }

@@ -1,4 +1,4 @@
-use Rattle.std.proofs.Common.{◌≡◌, ◌+◌, ◌<◌, ◌^◌, [], ◌∷◌, pos, length, take, unsigned_abs, subst, sym, ◌∙◌, ap, arith}
+use Rattle.std.proofs.Common.{◌≡◌, ◌<◌, ◌^◌, [], pos, take, unsigned_abs, subst, sym, ◌∙◌, ap, arith}
 use mir.Syntax.{w128}
 use Rattle.std.specs.Int.{IsGcd}
 use Rattle.std.proofs.lemmas.Int.{to_z-of_z, fits_signed_from_abs}
