@@ -18,13 +18,13 @@ use Rattle.hopf_laws.proofs.Scalars.{no_bases}
 use Rattle.hopf_ops.specs.Answers.{IsOver}
 
 -- keys put together
-indices-append : (rows rows' : List Row) (key key' : Codes) → AreIndices rows key → AreIndices rows' key' → AreIndices (rows ++ rows') (key ++ key')
+pub indices-append : (rows rows' : List Row) (key key' : Codes) → AreIndices rows key → AreIndices rows' key' → AreIndices (rows ++ rows') (key ++ key')
 indices-append [] rows' [] key' h h' = h'
 indices-append [] rows' (code ∷ key) key' h h' = absurd h
 indices-append (row ∷ rows) rows' [] key' h h' = absurd h
 indices-append (row ∷ rows) rows' (code ∷ key) key' h h' = (h.0, indices-append rows rows' key key' h.1 h')
 
-total_degree-append : (rows rows' : List Row) (key key' : Codes) → AreIndices rows key → total_degree (rows ++ rows') (key ++ key') ≡ total_degree rows key + total_degree rows' key'
+pub total_degree-append : (rows rows' : List Row) (key key' : Codes) → AreIndices rows key → total_degree (rows ++ rows') (key ++ key') ≡ total_degree rows key + total_degree rows' key'
 total_degree-append [] rows' [] key' h = omega arith
 total_degree-append [] rows' (code ∷ key) key' h = absurd h
 total_degree-append (row ∷ rows) rows' [] key' h = absurd h
@@ -43,7 +43,7 @@ occurrence-append (row ∷ rows) rows' (code ∷ key) key' (p ∷ ps) e f =
 rows_of-append : (lefts rights : List BasisId) → rows_of (lefts ++ rights) ≡ rows_of lefts ++ rows_of rights
 rows_of-append lefts rights = map-append (λ basis. row_of basis) lefts rights
 
-length-rows : (bases : List BasisId) → length (rows_of bases) ≡ length bases
+pub length-rows : (bases : List BasisId) → length (rows_of bases) ≡ length bases
 length-rows bases = length-map bases (λ basis. row_of basis)
 
 -- a tensor product within the limits is over both lists of bases
@@ -70,7 +70,7 @@ tensor_over a b c ha hb short within is = record {
         ))
 
 -- the product of two sums of numerators, where the keys of the first have one rank
-weighed-tensor : (rows rows' : List Row) (ts us : Terms) (ps : Codes) → AreTerms (length rows) ts → length ps ≡ length rows + length rows'
+pub weighed-tensor : (rows rows' : List Row) (ts us : Terms) (ps : Codes) → AreTerms (length rows) ts → length ps ≡ length rows + length rows'
     → weighed (λ left. weighed (λ right. pos (occurrence (rows ++ rows') (left ++ right) ps)) us) ts
     ≡ weighed (λ key. pos (occurrence rows key (take (length rows) ps))) ts *ℤ weighed (λ key. pos (occurrence rows' key (drop (length rows) ps))) us
 weighed-tensor rows rows' ts us ps h long =

@@ -1,10 +1,12 @@
 -- The product of two combinations over the same bases, without their denominators.
-use Rattle.std.specs.Prelude.{◌≡◌, ℕ, ◌+◌, ◌≤◌, List, length}
-use Rattle.linear_combos.specs.Combos.{Combination, IsCanonical, HasKey}
+use Rattle.std.specs.Prelude.{◌≡◌, ℕ, ◌+◌, ◌*◌, ◌^◌, ◌<◌, ◌≤◌, ◌⊎◌, ℤ, ◌+ℤ◌, ◌*ℤ◌, List, length, take, unsigned_abs}
+use Rattle.linear_combos.specs.Answers.{IsAnswer}
+use Rattle.linear_combos.specs.Combos.{Combination, IsCanonical, HasKey, norm_of, term_at, weighed}
 use Rattle.linear_combos.specs.Indices.{AreIndices, total_degree}
-use Rattle.linear_combos.specs.Readings.{leaf, product, numerator}
+use Rattle.linear_combos.specs.Readings.{Terms, leaf, product, of_key, numerator}
 use Rattle.hopf_laws.specs.declared.bases.BasisId.{BasisId}
-use Rattle.hopf_laws.specs.Bases.{rows_of}
+use Rattle.hopf_laws.specs.Bases.{rows_of, least_limit}
+use Rattle.hopf_laws.specs.Values.{greatest_degree}
 
 -- the keys are indices of these bases
 pub record IsOfIndices (bases : List BasisId) (c : Combination) : Type 0 where
@@ -19,3 +21,46 @@ pub record IsGathered (bases : List BasisId) (n : ℕ) (a b c : Combination) : T
   pub degrees : (key : List (List ℕ)) → HasKey c.terms key → total_degree (rows_of bases) key ≤ n
   pub reads : (ps : List (List ℕ)) → length ps ≡ length bases →
       numerator (leaf (rows_of bases) 1 c.terms) ps ≡ numerator (product (leaf (rows_of bases) a.den a.terms) (leaf (rows_of bases) b.den b.terms)) ps
+
+-- two keys are indices of these bases, and the degree of their product is within the least limit
+pub record AreFactorKeys (bases : List BasisId) (left right : List (List ℕ)) : Type 0 where
+  pub left_indices : AreIndices (rows_of bases) left
+  pub right_indices : AreIndices (rows_of bases) right
+  pub degree : total_degree (rows_of bases) left + total_degree (rows_of bases) right ≤ least_limit bases
+
+-- the combination is the product of the basis elements of two keys
+abbrev pub IsProductOfKeys : List BasisId → List (List ℕ) → List (List ℕ) → Combination → Type 0
+IsProductOfKeys bases left right c =
+    IsAnswer (rows_of bases) (total_degree (rows_of bases) left + total_degree (rows_of bases) right) (product (of_key (rows_of bases) left) (of_key (rows_of bases) right)) c
+
+-- the degree of a product of terms: the sum of the greatest degrees
+abbrev pub degree_of_product : List BasisId → Terms → Terms → ℕ
+degree_of_product bases ts us = greatest_degree (rows_of bases) ts + greatest_degree (rows_of bases) us
+
+-- two combinations over the same bases whose product is within the least limit and has room
+pub record AreFactors (bases : List BasisId) (a b : Combination) : Type 0 where
+  pub some : 1 ≤ length bases
+  pub left_over : IsOfIndices bases a
+  pub right_over : IsOfIndices bases b
+  pub degree : degree_of_product bases a.terms b.terms ≤ least_limit bases
+  pub room : norm_of a.terms * norm_of b.terms * 2 ^ (5 * degree_of_product bases a.terms b.terms) < 2 ^ 127
+
+-- a multiple of the first terms of a list was added, up to a count: whatever the keys weigh, the new terms weigh as much as the old ones and the multiple of these; and each key was there before, or is in the list
+pub record AddsMultiple (old : Combination) (num : ℤ) (by : Terms) (count : ℕ) (new : Combination) : Type 0 where
+  pub rank : new.rank ≡ old.rank
+  pub den : new.den ≡ old.den
+  pub weighs : (weight : List (List ℕ) → ℤ) → weighed weight new.terms ≡ weighed weight old.terms +ℤ (num *ℤ weighed weight (take count by))
+  pub keys : (key : List (List ℕ)) → HasKey new.terms key → HasKey old.terms key ⊎ HasKey by key
+  pub norm : norm_of new.terms ≤ norm_of old.terms + unsigned_abs num * norm_of (take count by)
+
+-- the products of each of the first i terms with all of the second list, and of the next term with its first j, were gathered
+pub record AreGathered (bases : List BasisId) (ts us : Terms) (i j : ℕ) (c : Combination) : Type 0 where
+  pub rank : c.rank ≡ length bases
+  pub whole : c.den ≡ 1
+  pub indices : (key : List (List ℕ)) → HasKey c.terms key → AreIndices (rows_of bases) key
+  pub degrees : (key : List (List ℕ)) → HasKey c.terms key → total_degree (rows_of bases) key ≤ degree_of_product bases ts us
+  pub norm : norm_of c.terms ≤ (norm_of (take i ts) * norm_of us + unsigned_abs (term_at ts i).0 * norm_of (take j us)) * 2 ^ (5 * degree_of_product bases ts us)
+  pub reads : (ps : List (List ℕ)) → length ps ≡ length bases →
+      numerator (leaf (rows_of bases) 1 c.terms) ps
+      ≡ weighed (λ k. weighed (λ l. numerator (product (of_key (rows_of bases) k) (of_key (rows_of bases) l)) ps) us) (take i ts)
+      +ℤ ((term_at ts i).0 *ℤ weighed (λ l. numerator (product (of_key (rows_of bases) ((term_at ts i).1)) (of_key (rows_of bases) l)) ps) (take j us))
