@@ -24,8 +24,8 @@ fn monomial(alloc: Global, parts: &[u8]) -> Result<Value, Fail> {
     Ok(Value::element(alloc, BasisId::QsymM, code)?)
 }
 
-fn answer(result: Result<Value, Refusal>) -> Result<Value, Fail> {
-    Ok(result.map_err(|_| "refused")?)
+fn answer(given: Result<Value, Refusal>) -> Result<Value, Fail> {
+    Ok(given.map_err(|_| "refused")?)
 }
 
 /// Whether the value has these numerators over this denominator.
