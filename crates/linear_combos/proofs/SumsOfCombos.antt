@@ -1,4 +1,4 @@
--- Sums and multiples of combinations, from combinations of their terms.
+-- Sums, differences and multiples of combinations, from combinations of their terms.
 use Rattle.std.proofs.Common.{◌≡◌, ℕ, ◌*◌, ◌/◌, ◌≤◌, [], inl, inr, sym, ◌∙◌, ap, arith}
 use Rattle.std.proofs.Math.IntN.{ℤ, pos, negsuc, neg_ℤ, ◌+ℤ◌, ◌*ℤ◌, *ℤ-one, *ℤ-negsuc, one}
 use Rattle.std.proofs.lemmas.Int.{ints}

@@ -1,4 +1,4 @@
--- Terms on the way to canonical form: sums over a denominator that may have a factor in common with them.
+-- Terms on the way to canonical form: sums and products over a denominator that may have a factor in common with them.
 use Rattle.std.specs.Prelude.{◌≡◌, ℕ, ◌+◌, ◌*◌, ◌^◌, ◌<◌, ◌≤◌, ◌⊎◌, ℤ, pos, int_div, ◌+ℤ◌, ◌*ℤ◌, List, ◌++◌, length, map, take, unsigned_abs}
 use Rattle.std.specs.declared.cmp.Ordering.{Ordering}
 use Rattle.std.specs.declared.cmp.Ordering.TheVariants.{Less, Equal, Greater}

@@ -385,7 +385,7 @@ impl Combo {
         Ok(Combo::lowest(tensor))
     }
 
-    // The same sum in lowest terms.
+    // The combination of these terms, in lowest terms.
     fn lowest(sum: Unreduced) -> Combo
         ensures { IsOver sum.rank sum.den sum.terms result }
     {
