@@ -106,7 +106,9 @@ impl Bases {
         let held = match (self.held, other.held) {
             (Held::None, bases) | (bases, Held::None) => bases,
             (Held::One(a), Held::One(b)) => Held::Two(a, b),
-            (Held::One(a), Held::Two(b, c)) | (Held::Two(a, b), Held::One(c)) => Held::Three(a, b, c),
+            (Held::One(a), Held::Two(b, c)) | (Held::Two(a, b), Held::One(c)) => Held::Three(
+                a, b, c,
+            ),
             _ => unreachable!(),
         };
         Bases { held }

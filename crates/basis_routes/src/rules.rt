@@ -32,7 +32,12 @@ pub fn is_index(basis: BasisId, code: &Code) -> bool
 
 /// The product of two basis elements, as a combination over the same basis. The cost is that of the
 /// rule of the basis.
-pub fn product_of(alloc: Global, basis: BasisId, left: &Code, right: &Code) -> Result<Combo, OutOfMemory>
+pub fn product_of(
+    alloc: Global,
+    basis: BasisId,
+    left: &Code,
+    right: &Code,
+) -> Result<Combo, OutOfMemory>
     requires left { IsIndex (row_of basis) left.now }
     requires right { IsIndex (row_of basis) right.now }
     requires degree { degree_of (row_of basis) left.now + degree_of (row_of basis) right.now ≤ limit_of (algebra_of basis) }

@@ -48,7 +48,11 @@ fn values_with_ample_memory(rt: HostRuntime) -> Result<(), Fail> {
 
     let zero = Value::scalar(rt.alloc(), &Fraction::new(0, 5).map_err(|_| "no fraction")?)?;
     assert_eq!(rt; zero.combo().len(), 0);
-    assert_eq!(rt; zero.as_fraction().map(|number| (number.num(), number.den())), Some((0, 1)));
+    assert_eq!(rt;
+        zero.as_fraction()
+            .map(|number| (number.num(), number.den())),
+        Some((0, 1))
+    );
 
     let element = monomial(rt.alloc(), &[2, 1])?;
     assert_eq!(rt; (element.rank(), element.degree()), (1, 3));
@@ -76,18 +80,37 @@ fn products_of_elements(rt: HostRuntime) -> Result<(), Fail> {
 /// What a check answers where it fails.
 #[test]
 fn checks_that_fail(rt: HostRuntime) {
-    let need = Need::Linear { norm: 128, shift: 120 };
+    let need = Need::Linear {
+        norm: 128,
+        shift: 120,
+    };
     for (check, refusal) in [
         (Check::SameRank { left: 1, right: 2 }, Refusal::Rank),
         (Check::RankWithin { rank: 4 }, Refusal::Rank),
         (Check::Scalar { rank: 1 }, Refusal::NotScalar),
         (Check::Nonzero { num: 0 }, Refusal::ZeroDivisor),
-        (Check::DegreeWithin { degree: 11, limit: 10 }, Refusal::Degree { degree: 11, limit: 10 }),
+        (
+            Check::DegreeWithin {
+                degree: 11,
+                limit: 10,
+            },
+            Refusal::Degree {
+                degree: 11,
+                limit: 10,
+            },
+        ),
         (Check::Room { need }, Refusal::TooLarge(need)),
     ] {
         assert_eq!(rt; check.test(), Err(refusal));
     }
-    assert_eq!(rt; Check::DegreeWithin { degree: 10, limit: 10 }.test(), Ok(()));
+    assert_eq!(rt;
+        Check::DegreeWithin {
+            degree: 10,
+            limit: 10
+        }
+        .test(),
+        Ok(())
+    );
     assert_eq!(rt; Check::RankWithin { rank: 3 }.test(), Ok(()));
     assert_eq!(rt; hopf_laws::algebra(BasisId::QsymM), AlgebraId::Qsym);
 }

@@ -129,7 +129,11 @@ impl Value {
         if self.combo.rank() != 0 {
             return None;
         }
-        let num = if self.combo.len() == 0 { 0 } else { self.combo.num_at(0) };
+        let num = if self.combo.len() == 0 {
+            0
+        } else {
+            self.combo.num_at(0)
+        };
         Some(Fraction::new(num, self.combo.den()).unwrap())
     }
 

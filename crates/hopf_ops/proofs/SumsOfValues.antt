@@ -72,7 +72,7 @@ reads_over true bases a b c is ps =
     let right = numerator (leaf (rows_of bases) b.den b.terms) ps in
     let den : pos (a.den * (1 * b.den)) ≡ pos a.den *ℤ pos b.den = ap (λ n. pos (a.den * n)) (one-mul b.den) ∙ sym (pos-*ℤ-pos a.den b.den) in
     let value : (numerator (leaf (rows_of bases) a.den a.terms) ps *ℤ pos b.den) +ℤ neg_ℤ (right *ℤ pos a.den)
-      ≡ (numerator (leaf (rows_of bases) a.den a.terms) ps *ℤ pos (1 * b.den)) +ℤ ((negsuc 0 *ℤ right) *ℤ pos a.den) =
+    ≡ (numerator (leaf (rows_of bases) a.den a.terms) ps *ℤ pos (1 * b.den)) +ℤ ((negsuc 0 *ℤ right) *ℤ pos a.den) =
     (λ i. (numerator (leaf (rows_of bases) a.den a.terms) ps *ℤ pos (sym (one-mul b.den) i)) +ℤ negated right a.den i) in
     ap (λ z. numerator (leaf (rows_of bases) c.den c.terms) ps *ℤ z) den
     ∙ is.weighs (λ key. pos (occurrence (rows_of bases) key ps))
@@ -80,6 +80,7 @@ reads_over true bases a b c is ps =
   where
     one-mul : (n : ℕ) → 1 * n ≡ n
     one-mul n = omega arith
+
     negated : (z : ℤ) (n : ℕ) → neg_ℤ (z *ℤ pos n) ≡ (negsuc 0 *ℤ z) *ℤ pos n
     negated z n =
         ap neg_ℤ (*ℤ_comm z (pos n)) ∙ sym (*ℤ-neg_ℤ (pos n) z) ∙ *ℤ_comm (pos n) (neg_ℤ z)

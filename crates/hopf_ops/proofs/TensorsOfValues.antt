@@ -59,6 +59,7 @@ tensor_over a b c ha hb short within is = record {
     both_indices : (key : Codes) → ((left : Codes) × (right : Codes) × HasKey a.combination.terms left × HasKey b.combination.terms right × (key ≡ left ++ right)) → AreIndices (rows_of (a.bases ++ b.bases)) key
     both_indices key (left, right, l, r, e) =
         rw (e, rows_of-append a.bases b.bases) (indices-append (rows_of a.bases) (rows_of b.bases) left right (ha.indices left l) (hb.indices right r))
+
     both_degrees : (key : Codes) → ((left : Codes) × (right : Codes) × HasKey a.combination.terms left × HasKey b.combination.terms right × (key ≡ left ++ right)) → total_degree (rows_of (a.bases ++ b.bases)) key ≤ least_limit (a.bases ++ b.bases)
     both_degrees key (left, right, l, r, e) =
         rw (e, rows_of-append a.bases b.bases) (omega (
@@ -79,7 +80,7 @@ weighed-tensor rows rows' ts us ps h long =
     (each_from _ ts (λ i lt.
     let rank = h.ranks i lt in
     λ j. weighed (λ right. (ap pos (occurrence-append rows rows' ((term_at ts i).1) right ps rank long)
-      ∙ sym (pos-*ℤ-pos (occurrence rows ((term_at ts i).1) (take (length rows) ps)) (occurrence rows' right (drop (length rows) ps)))) j) us))
+    ∙ sym (pos-*ℤ-pos (occurrence rows ((term_at ts i).1) (take (length rows) ps)) (occurrence rows' right (drop (length rows) ps)))) j) us))
     ∙ sym (weighed-times (λ key. pos (occurrence rows key (take (length rows) ps))) (λ key. pos (occurrence rows' key (drop (length rows) ps))) ts us)
 
 -- and reads as the tensor product

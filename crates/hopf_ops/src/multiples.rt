@@ -15,7 +15,10 @@ pub fn negate(alloc: Global, a: &Value) -> Result<Value, Refusal>
     ensures checks { Tests [] result }
     ensures value { IfOk result (Expands a.now.bases (negation_of a.now)) }
 {
-    over_bases(a.bases().copy(), Combo::scale(alloc, a.combo(), &minus_one()))
+    over_bases(
+        a.bases().copy(),
+        Combo::scale(alloc, a.combo(), &minus_one()),
+    )
 }
 
 // The fraction -1.

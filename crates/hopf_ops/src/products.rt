@@ -105,7 +105,12 @@ fn multiplied(alloc: Global, a: &Value, b: &Value, bases: Bases) -> Result<Value
 }
 
 // The tensor product over the bases of both values.
-pub(crate) fn tensor_over(alloc: Global, a: &Value, b: &Value, bases: Bases) -> Result<Value, Refusal>
+pub(crate) fn tensor_over(
+    alloc: Global,
+    a: &Value,
+    b: &Value,
+    bases: Bases,
+) -> Result<Value, Refusal>
     requires bases { bases ≡ a.now.bases ++ b.now.bases }
     requires rank { length a.now.bases + length b.now.bases ≤ 3 }
     requires degree { degree_of_value a.now + degree_of_value b.now ≤ least_limit (a.now.bases ++ b.now.bases) }

@@ -46,12 +46,7 @@ fn sum_or_difference(alloc: Global, a: &Value, b: &Value, minus: bool) -> Result
 }
 
 // The same of combinations.
-fn plus_or_minus(
-    alloc: Global,
-    a: &Combo,
-    b: &Combo,
-    minus: bool,
-) -> Result<Combo, ComboFault>
+fn plus_or_minus(alloc: Global, a: &Combo, b: &Combo, minus: bool) -> Result<Combo, ComboFault>
     requires rank { a.now.rank ≡ b.now.rank }
     ensures sum { IfOk result (IsSumOrDifference minus a.now b.now) }
     ensures room { (m : ℕ) → IsLcm a.now.den b.now.den m

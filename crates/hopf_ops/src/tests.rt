@@ -6,10 +6,6 @@ use linear_combos::Code;
 use std::alloc::Global;
 use std::test::Fail;
 
-fn code(alloc: Global, parts: &[u8]) -> Result<Code, Fail> {
-    Ok(Code::new(alloc, parts).ok_or("no code")?)
-}
-
 fn scalar(alloc: Global, num: i128, den: i128) -> Result<Value, Fail> {
     let number = Fraction::new(num, den).map_err(|_| "no fraction")?;
     Ok(Value::scalar(alloc, &number)?)
@@ -17,21 +13,20 @@ fn scalar(alloc: Global, num: i128, den: i128) -> Result<Value, Fail> {
 
 /// The monomial element of a composition of at most 10.
 fn monomial(alloc: Global, parts: &[u8]) -> Result<Value, Fail> {
-    let code = code(alloc, parts)?;
+    let code = Code::new(alloc, parts).ok_or("no code")?;
     if !is_index(BasisId::QsymM, &code) {
         return Err(Fail::from("no index"));
     }
     Ok(Value::element(alloc, BasisId::QsymM, code)?)
 }
 
-fn answer(given: Result<Value, Refusal>) -> Result<Value, Fail> {
-    Ok(given.map_err(|_| "refused")?)
-}
-
-/// Whether the value has these numerators over this denominator.
-fn is_over(value: &Value, nums: &[i128], den: i128) -> bool {
+/// Whether the answer has this rank and these numerators over this denominator.
+fn is_over(answer: Result<Value, Refusal>, rank: u32, nums: &[i128], den: i128) -> bool {
+    let Ok(value) = answer else {
+        return false;
+    };
     let combo = value.combo();
-    if combo.den() != den || combo.len() != nums.len() {
+    if combo.rank() != rank || combo.den() != den || combo.len() != nums.len() {
         return false;
     }
     for at in 0..nums.len() {
@@ -42,68 +37,96 @@ fn is_over(value: &Value, nums: &[i128], den: i128) -> bool {
     true
 }
 
+/// Whether the answer is this refusal.
+fn is_refused(answer: Result<Value, Refusal>, refusal: Refusal) -> bool {
+    match answer {
+        Ok(_) => false,
+        Err(told) => told == refusal,
+    }
+}
+
 /// Fractions of elements are added, and what cancels is zero over 1.
 #[test]
 fn sums_and_differences(rt: HostRuntime) -> Result<(), Fail> {
-    let x = monomial(rt.alloc(), &[1])?;
-    let half = answer(times(rt.alloc(), &scalar(rt.alloc(), 1, 2)?, &x))?;
-    let third = answer(times(rt.alloc(), &x, &scalar(rt.alloc(), 1, 3)?))?;
-    assert!(rt; is_over(&answer(add(rt.alloc(), &half, &third))?, &[5], 6));
-    assert!(rt; is_over(&answer(sub(rt.alloc(), &third, &half))?, &[-1], 6));
-    assert!(rt; is_over(&answer(sub(rt.alloc(), &half, &half))?, &[], 1));
-    assert!(rt; is_over(&answer(negate(rt.alloc(), &half))?, &[-1], 2));
-    let refused = add(rt.alloc(), &x, &scalar(rt.alloc(), 1, 1)?);
-    assert!(rt; matches!(refused, Err(Refusal::Rank)));
+    let alloc = rt.alloc();
+    let x = monomial(alloc, &[1])?;
+    let two = scalar(alloc, 2, 1)?;
+    let three = scalar(alloc, 3, 1)?;
+    let half = divide(alloc, &x, &two).map_err(|_| "refused")?;
+    let third = divide(alloc, &x, &three).map_err(|_| "refused")?;
+    assert!(rt; is_over(add(alloc, &half, &third), 1, &[5], 6));
+    assert!(rt; is_over(sub(alloc, &third, &half), 1, &[-1], 6));
+    assert!(rt; is_over(sub(alloc, &half, &half), 1, &[], 1));
+    assert!(rt; is_over(negate(alloc, &half), 1, &[-1], 2));
+    assert!(rt; is_refused(add(alloc, &x, &two), Refusal::Rank));
     Ok(())
 }
 
-/// Products, by a scalar, by components, and past the limit.
+/// Products by components and by scalars, and tensor products.
 #[test]
 fn products(rt: HostRuntime) -> Result<(), Fail> {
-    let x = monomial(rt.alloc(), &[1])?;
-    let square = answer(times(rt.alloc(), &x, &x))?;
-    assert!(rt; is_over(&square, &[2, 1], 1));
-    assert_eq!(rt; square.degree(), 2);
-    let pair = answer(tensor(rt.alloc(), &x, &square))?;
-    assert_eq!(rt; (pair.rank(), pair.degree()), (2, 3));
+    let alloc = rt.alloc();
+    let x = monomial(alloc, &[1])?;
+    let half = scalar(alloc, 1, 2)?;
+    assert!(rt; is_over(times(alloc, &x, &x), 1, &[2, 1], 1));
+    assert!(rt; is_over(times(alloc, &half, &x), 1, &[1], 2));
+    assert!(rt; is_over(times(alloc, &x, &half), 1, &[1], 2));
+    let pair = tensor(alloc, &x, &x).map_err(|_| "refused")?;
+    assert!(rt; is_over(times(alloc, &pair, &pair), 2, &[4, 2, 2, 1], 1));
+    assert!(rt; is_refused(times(alloc, &pair, &x), Refusal::Rank));
+    assert!(rt; is_refused(tensor(alloc, &pair, &pair), Refusal::Rank));
+    Ok(())
+}
 
-    let six = monomial(rt.alloc(), &[6])?;
-    let five = monomial(rt.alloc(), &[5])?;
-    let refused = times(rt.alloc(), &six, &five);
-    assert!(rt; matches!(refused, Err(Refusal::Degree { degree: 11, limit: 10 })));
-    let refused = tensor(rt.alloc(), &six, &five);
-    assert!(rt; matches!(refused, Err(Refusal::Degree { degree: 11, limit: 10 })));
-    let refused = tensor(rt.alloc(), &pair, &pair);
-    assert!(rt; matches!(refused, Err(Refusal::Rank)));
-    let refused = times(rt.alloc(), &pair, &x);
-    assert!(rt; matches!(refused, Err(Refusal::Rank)));
+/// Degrees past the limit are told with it.
+#[test]
+fn degrees_past_the_limit(rt: HostRuntime) -> Result<(), Fail> {
+    let alloc = rt.alloc();
+    let six = monomial(alloc, &[6])?;
+    let five = monomial(alloc, &[5])?;
+    let refusal = Refusal::Degree {
+        degree: 11,
+        limit: 10,
+    };
+    assert!(rt; is_over(times(alloc, &five, &five), 1, &[2, 1], 1));
+    assert!(rt; is_refused(times(alloc, &six, &five), refusal));
+    assert!(rt; is_refused(tensor(alloc, &six, &five), refusal));
     Ok(())
 }
 
 /// Quotients, and what is no divisor.
 #[test]
 fn quotients(rt: HostRuntime) -> Result<(), Fail> {
-    let x = monomial(rt.alloc(), &[2])?;
-    let quotient = answer(divide(rt.alloc(), &x, &scalar(rt.alloc(), -2, 3)?))?;
-    assert!(rt; is_over(&quotient, &[-3], 2));
-    let refused = divide(rt.alloc(), &x, &x);
-    assert!(rt; matches!(refused, Err(Refusal::NotScalar)));
-    let refused = divide(rt.alloc(), &x, &scalar(rt.alloc(), 0, 1)?);
-    assert!(rt; matches!(refused, Err(Refusal::ZeroDivisor)));
+    let alloc = rt.alloc();
+    let x = monomial(alloc, &[2])?;
+    let divisor = scalar(alloc, -2, 3)?;
+    let zero = scalar(alloc, 0, 1)?;
+    assert!(rt; is_over(divide(alloc, &x, &divisor), 1, &[-3], 2));
+    assert!(rt; is_refused(divide(alloc, &x, &x), Refusal::NotScalar));
+    assert!(rt; is_refused(divide(alloc, &x, &zero), Refusal::ZeroDivisor));
     Ok(())
 }
 
 /// Room that is passed is told with its numbers, with the growth of a product in its shift.
 #[test]
 fn room_that_is_passed(rt: HostRuntime) -> Result<(), Fail> {
-    let x = monomial(rt.alloc(), &[1])?;
-    let most = answer(times(rt.alloc(), &scalar(rt.alloc(), i128::MAX, 1)?, &x))?;
+    let alloc = rt.alloc();
+    let x = monomial(alloc, &[1])?;
+    let greatest = scalar(alloc, i128::MAX, 1)?;
+    let most = times(alloc, &greatest, &x).map_err(|_| "refused")?;
     let norm = (1u128 << 127) - 1;
-    let refused = add(rt.alloc(), &most, &x);
-    let need = Need::Sum { left: norm, left_factor: 1, right: 1, right_factor: 1 };
-    assert!(rt; matches!(refused, Err(Refusal::TooLarge(told)) if told == need));
-    let refused = times(rt.alloc(), &most, &x);
-    let need = Need::Product { left: norm, right: 1, shift: 10 };
-    assert!(rt; matches!(refused, Err(Refusal::TooLarge(told)) if told == need));
+    let sum = Need::Sum {
+        left: norm,
+        left_factor: 1,
+        right: 1,
+        right_factor: 1,
+    };
+    let product = Need::Product {
+        left: norm,
+        right: 1,
+        shift: 10,
+    };
+    assert!(rt; is_refused(add(alloc, &most, &x), Refusal::TooLarge(sum)));
+    assert!(rt; is_refused(times(alloc, &most, &x), Refusal::TooLarge(product)));
     Ok(())
 }

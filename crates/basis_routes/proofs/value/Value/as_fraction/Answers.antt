@@ -21,8 +21,7 @@ returns c =
     let lowest = rw c.unwrap.ensures at c.new.ensures.lowest in
     let value = rw (c.unwrap.ensures, num, to_z-of_z w128 c.den.result (record { sfits = c.den.type_inv }), c.den.ensures) at c.new.ensures.value in
     let same = fraction-unique c.unwrap.result (record { num = number_of combination.terms; den = combination.den }) lowest
-    (fraction-scalar combination.den combination.terms terms c.self.invariant.canonical.lowest) value in
-    (
+    (fraction-scalar combination.den combination.terms terms c.self.invariant.canonical.lowest) value in (
       ap (λ v. length v.bases) (sym c.self.view_is) ∙ sym c.self.invariant.rank ∙ none,
       same ∙ sym (ratio-scalar _ c.self.invariant (sym c.self.invariant.rank ∙ none)) ∙ ap (λ v. ratio_of v) c.self.view_is,
     )
