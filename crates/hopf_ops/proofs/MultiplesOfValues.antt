@@ -1,12 +1,11 @@
 -- The combination of a multiple as a value.
-use Rattle.std.proofs.Common.{◌≡◌, ℕ, ◌*◌, ◌^◌, ◌<◌, ◌≤◌, List, [], ◌∷◌, length, refl, sym, ◌∙◌, ap, subst, arith}
+use Rattle.std.proofs.Common.{◌≡◌, ℕ, ◌*◌, ◌^◌, ◌<◌, List, [], ◌∷◌, refl, sym, ◌∙◌, ap, arith}
 use Rattle.std.proofs.Math.IntN.{ℤ, pos, negsuc, ◌*ℤ◌, pos-*ℤ-pos, *ℤ_comm}
 use Rattle.std.proofs.Math.Nat.{mul_comm}
-use Rattle.std.specs.Prelude.{All, neg_ℤ, unsigned_abs}
+use Rattle.std.specs.Prelude.{All, unsigned_abs}
 use Rattle.std.proofs.lemmas.List.Elements.{All-cons}
 use Rattle.hopf_num.specs.Fractions.{Ratio, with_sign_of}
 use Rattle.hopf_num.specs.Room.{HasRoom, product_rule}
-use Rattle.hopf_num.specs.declared.room.Need.{Need}
 use Rattle.hopf_num.specs.declared.room.Need.TheVariants.{Denominator, Product}
 use Rattle.hopf_num.proofs.LowestTerms.{abs-neg}
 use Rattle.linear_combos.specs.Combos.{Combination, IsMultiple}

@@ -1,8 +1,7 @@
 -- The combination of a product of values as a value.
-use Rattle.std.proofs.Common.{◌≡◌, ℕ, ◌+◌, ◌*◌, ◌^◌, ◌≤◌, ◌<◌, List, length, refl, sym, ◌∙◌, ap, subst, arith}
-use Rattle.std.proofs.Math.IntN.{ℤ, pos, ◌*ℤ◌, *ℤ_comm, *ℤ-one, one}
+use Rattle.std.proofs.Common.{◌≡◌, ℕ, ◌*◌, ◌^◌, ◌≤◌, ◌<◌, List, length, sym, ◌∙◌, ap, subst, arith}
+use Rattle.std.proofs.Math.IntN.{pos, ◌*ℤ◌, *ℤ_comm, *ℤ-one, one}
 use Rattle.std.specs.Prelude.{All}
-use Rattle.hopf_num.specs.Fractions.{Ratio}
 use Rattle.hopf_num.specs.declared.room.Need.TheVariants.{Linear}
 use Rattle.linear_combos.specs.Combos.{Combination, IsCanonical, IsMultiple, norm_of}
 use Rattle.linear_combos.specs.Readings.{leaf, product, occurrence, numerator, AgreeAt}

@@ -4,12 +4,11 @@ use Rattle.std.proofs.Math.IntN.{ℤ, pos, negsuc, ◌+ℤ◌, ◌*ℤ◌, pos-*
 use Rattle.hopf_num.proofs.Ring.{*ℤ-neg_ℤ}
 use Rattle.linear_combos.specs.Combos.{Combination, HasKey}
 use Rattle.linear_combos.specs.Indices.{AreIndices, total_degree}
-use Rattle.linear_combos.specs.Readings.{leaf, occurrence, numerator, denominator, AgreeAt}
-use Rattle.linear_combos.specs.Rows.{Row}
+use Rattle.linear_combos.specs.Readings.{leaf, occurrence, numerator, AgreeAt}
 use Rattle.hopf_laws.specs.declared.bases.BasisId.{BasisId}
 use Rattle.hopf_laws.specs.declared.bases.BasisId.TheVariants.{QsymM}
 use Rattle.hopf_laws.specs.Bases.{rows_of, least_limit}
-use Rattle.hopf_laws.specs.Values.{Expansion, IsValue, reading_of}
+use Rattle.hopf_laws.specs.Values.{Expansion, IsValue}
 use Rattle.std.specs.Prelude.{All, Bool, true, false, neg_ℤ}
 use Rattle.basis_routes.specs.declared.checks.Check.TheVariants.{SameRank}
 use Rattle.basis_routes.specs.Checks.{Passes}

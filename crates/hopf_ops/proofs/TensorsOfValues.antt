@@ -1,14 +1,14 @@
 -- The combination of a tensor product as a value.
-use Rattle.std.proofs.Common.{◌≡◌, ℕ, zero, suc, ◌+◌, ◌*◌, ◌≤◌, ◌<◌, ◌⊎◌, inl, inr, List, [], ◌∷◌, ◌++◌, length, map, take, drop, refl, sym, ◌∙◌, ap, subst, arith}
-use Rattle.std.proofs.Math.IntN.{ℤ, pos, ◌*ℤ◌, pos-*ℤ-pos}
+use Rattle.std.proofs.Common.{◌≡◌, ◌+◌, ◌*◌, ◌≤◌, ◌⊎◌, inl, inr, List, [], ◌∷◌, ◌++◌, length, map, take, drop, sym, ◌∙◌, ap, subst, arith}
+use Rattle.std.proofs.Math.IntN.{pos, ◌*ℤ◌, pos-*ℤ-pos}
 use Rattle.std.proofs.Math.Nat.{mul_assoc}
 use Rattle.std.proofs.lemmas.List.{map-append, length-append, length-map, append-nil}
 use Rattle.linear_combos.specs.Lists.{one_if}
 use Rattle.linear_combos.specs.Combos.{Combination, IsTensor, AreTerms, HasKey, weighed, term_at}
-use Rattle.linear_combos.specs.Indices.{AreIndices, total_degree, degree_of}
+use Rattle.linear_combos.specs.Indices.{AreIndices, total_degree}
 use Rattle.linear_combos.specs.Readings.{Terms, leaf, tensor, occurrence, numerator, AgreeAt}
 use Rattle.linear_combos.specs.Rows.{Row, kind_of, occurs}
-use Rattle.linear_combos.proofs.Coefficients.{Codes, Each, each_from, weighed_same}
+use Rattle.linear_combos.proofs.Coefficients.{Codes, each_from, weighed_same}
 use Rattle.linear_combos.proofs.Linearity.{weighed-times}
 use Rattle.hopf_laws.specs.declared.bases.BasisId.{BasisId}
 use Rattle.hopf_laws.specs.Bases.{rows_of, row_of, least_limit}

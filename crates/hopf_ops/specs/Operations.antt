@@ -1,5 +1,5 @@
 -- The operations on values: for each the checks in order, the bases of its answer and the reading of its answer.
-use Rattle.std.specs.Prelude.{ℕ, ◌+◌, ◌*◌, max, ◌||◌, if◌then◌else◌, Bool, true, false, pos, negsuc, List, [], ◌∷◌, ◌++◌, length, nat_eq, unsigned_abs}
+use Rattle.std.specs.Prelude.{ℕ, ◌+◌, ◌*◌, max, ◌||◌, if◌then◌else◌, Bool, true, false, negsuc, List, [], ◌∷◌, ◌++◌, length, nat_eq, unsigned_abs}
 use Rattle.hopf_num.specs.Fractions.{reciprocal}
 use Rattle.hopf_num.specs.Room.{product_rule, sum_rule}
 use Rattle.linear_combos.specs.Combos.{norm_of}

@@ -1,4 +1,4 @@
-use Rattle.std.proofs.Common.{◌≡◌, [], ◌∷◌, ◌++◌, length, rules}
+use Rattle.std.proofs.Common.{[], ◌∷◌, ◌++◌, length, rules}
 use Rattle.std.specs.Prelude.{All}
 use Rattle.std.proofs.lemmas.Result.{err_from_is_err_and}
 use Rattle.hopf_laws.specs.Bases.{least_limit}

@@ -1,4 +1,4 @@
-use Rattle.std.proofs.Common.{◌≡◌, negsuc, arith}
+use Rattle.std.proofs.Common.{negsuc, arith}
 use Rattle.std.proofs.lemmas.Nat.Gcd.{dvd_refl}
 use Rattle.hopf_num.specs.Fractions.{IsFraction}
 use Rattle.hopf_num.proofs.LowestTerms.{fraction-unique}

@@ -1,8 +1,8 @@
-use Rattle.std.proofs.Common.{◌≡◌, negsuc, subst, ◌∙◌}
+use Rattle.std.proofs.Common.{negsuc, subst, ◌∙◌}
 use Rattle.std.specs.Prelude.{IfOk}
 use Rattle.std.proofs.lemmas.Result.{IfOk-weaker}
 use Rattle.hopf_num.specs.Fractions.{Ratio}
-use Rattle.linear_combos.specs.Combos.{Combination, IsMultiple}
+use Rattle.linear_combos.specs.Combos.{IsMultiple}
 use Rattle.hopf_ops.specs.Answers.{IsOver, IsAnswerOver}
 use Rattle.hopf_ops.specs.Operations.{negation_of}
 use Rattle.hopf_ops.proofs.Rooms.{answer_expands}

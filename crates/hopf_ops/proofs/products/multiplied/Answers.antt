@@ -1,10 +1,8 @@
-use Rattle.std.proofs.Common.{◌≡◌, ℕ, ◌≤◌, ◌+◌, ◌*◌, ◌^◌, ◌<◌, pos, length, sym, ap, subst, ◌∙◌, arith, rules}
-use Rattle.linear_combos.specs.Combos.{Combination, IsCanonical, IsMultiple, norm_of}
+use Rattle.std.proofs.Common.{◌≡◌, ◌≤◌, ◌+◌, ◌*◌, ◌^◌, ◌<◌, pos, length, sym, ap, subst, ◌∙◌, arith, rules}
+use Rattle.linear_combos.specs.Combos.{Combination, IsCanonical, IsMultiple}
 use Rattle.linear_combos.specs.Readings.{leaf, product, AgreeAt}
-use Rattle.hopf_laws.specs.declared.bases.BasisId.{BasisId}
 use Rattle.hopf_laws.specs.Bases.{rows_of, least_limit}
-use Rattle.hopf_laws.specs.Values.{Expansion, IsValue, Expands, greatest_degree, degree_of_value, reading_of}
-use Rattle.hopf_ops.specs.Gathering.{IsGathered}
+use Rattle.hopf_laws.specs.Values.{Expansion, IsValue, greatest_degree, reading_of}
 use Rattle.hopf_ops.proofs.ProductsOfValues.{room_of_dens, room_of_norms, degree_over, gathered_value, gathered_reads}
 use Rattle.hopf_ops.proofs.products.multiplied.Goals as goal
 

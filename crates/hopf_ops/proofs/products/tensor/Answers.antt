@@ -1,4 +1,4 @@
-use Rattle.std.proofs.Common.{◌≡◌, ◌+◌, ◌++◌, [], ◌∷◌, length, arith, rules}
+use Rattle.std.proofs.Common.{◌+◌, ◌++◌, [], ◌∷◌, length, arith, rules}
 use Rattle.std.specs.Prelude.{All}
 use Rattle.hopf_laws.specs.Bases.{least_limit}
 use Rattle.hopf_laws.specs.Values.{degree_of_value}

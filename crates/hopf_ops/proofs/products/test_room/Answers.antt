@@ -1,4 +1,4 @@
-use Rattle.std.proofs.Common.{◌≡◌, [], ◌∷◌, rules}
+use Rattle.std.proofs.Common.{[], ◌∷◌, rules}
 use Rattle.std.specs.Prelude.{All}
 use Rattle.hopf_num.specs.declared.room.Need.TheVariants.{Denominator, Product}
 use Rattle.linear_combos.specs.Combos.{norm_of}

@@ -1,4 +1,4 @@
-use Rattle.std.proofs.Common.{◌≡◌, ℕ, subst, max, length, rules}
+use Rattle.std.proofs.Common.{ℕ, subst, max, rules}
 use Rattle.std.specs.Prelude.{All, IfOk}
 use Rattle.std.proofs.lemmas.Result.{IfOk-weaker, err_from_is_err_and}
 use Rattle.hopf_num.specs.Divisors.{IsLcm}
@@ -6,7 +6,7 @@ use Rattle.hopf_num.specs.Room.{sum_rule}
 use Rattle.linear_combos.specs.Faults.{TestsRoom}
 use Rattle.linear_combos.specs.Combos.{Combination, norm_of}
 use Rattle.hopf_laws.specs.Values.{degree_of_value}
-use Rattle.basis_routes.specs.Checks.{Passes, IsRefusalOf, Tests, room_checks}
+use Rattle.basis_routes.specs.Checks.{Passes, IsRefusalOf, room_checks}
 use Rattle.basis_routes.specs.Joins.{joined}
 use Rattle.basis_routes.proofs.Rows.{refused_front, tests_back}
 use Rattle.hopf_ops.specs.Answers.{IsOver, IsAnswerOver, IsSumOrDifference}
