@@ -11,14 +11,14 @@ use Rattle.hopf.specs.declared.product.Lexeme.TheVariants as lexeme
 use Rattle.hopf.specs.declared.statement.Outcome.{Outcome}
 use Rattle.hopf.specs.declared.statement.Outcome.TheVariants.{Empty, Printed, Refused}
 use Rattle.hopf.specs.declared.statement.StatementRefusal.TheVariants.{NotBuilt, Degree}
-use Rattle.hopf.specs.declared.tokens.Kind.{Kind}
-use Rattle.hopf.specs.declared.tokens.Kind.TheVariants as kind
-use Rattle.hopf.specs.declared.tokens.Token.{Token}
+use Rattle.session_lang.specs.declared.token.Kind.{Kind}
+use Rattle.session_lang.specs.declared.token.Kind.TheVariants as kind
+use Rattle.session_lang.specs.declared.token.Token.{Token}
 use Rattle.hopf.specs.Outcomes.{IsOutcome, empty, printed, past_limit, not_built}
 use Rattle.hopf.specs.Products.{lexemes_of, later_parts, list_lexemes, IsWithinLimit, IsProduct}
 use Rattle.hopf.specs.ProductSteps.{AreLexemes, HasNoList, IsElement, HasNoElement, IsLastFactor, HasNoLastFactor}
 use Rattle.hopf.specs.Text.{value_text}
-use Rattle.hopf.specs.Tokens.{is_blank, first_token, token, AreTokens, at_end, blank, next}
+use Rattle.session_lang.specs.Tokens.{is_blank, first_token, token, AreTokens, at_end, blank, next}
 use Rattle.hopf.specs.Transcript.{is_end, trimmed, unfinished, AreOutcomes, IsScript}
 use Rattle.hopf.specs.Values.{IsValueOf}
 use Rattle.hopf.proofs.Lexemes.{later_of_later, nothing_later, no_index, element_of_factor, no_end, no_product, no_right}

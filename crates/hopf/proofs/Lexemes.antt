@@ -6,7 +6,7 @@ use Rattle.hopf.specs.declared.product.Lexeme.{Lexeme}
 use Rattle.hopf.specs.declared.product.Lexeme.TheVariants as lexeme
 use Rattle.hopf.specs.Products.{number_from, lexemes_of, later_parts, list_lexemes, product_lexemes, IsWithinLimit, IsProduct}
 use Rattle.hopf.specs.ProductSteps.{AreLexemes, HasNoList, IsElement, HasNoElement, IsLastFactor, HasNoLastFactor}
-use Rattle.hopf.proofs.TokenSteps.{tokens_once}
+use Rattle.session_lang.proofs.TokenSteps.{tokens_once}
 
 -- Numbers of at least 255 stay so, whatever digits follow.
 same_small : (m n : ℕ) (digits : List ℕ) → min m 255 ≡ min n 255 → min (number_from m digits) 255 ≡ min (number_from n digits) 255

@@ -7,4 +7,3 @@ pub mod Runs
 pub mod Sessions
 pub mod Statements
 pub mod Texts
-pub mod TokenSteps

@@ -13,10 +13,10 @@ use Rattle.hopf.specs.declared.statement.Outcome.TheVariants.{Printed, Refused}
 use Rattle.hopf.specs.declared.statement.StatementRefusal.TheVariants.{Degree}
 use Rattle.hopf.specs.Outcomes.{IsOutcome, empty, printed, past_limit, not_built}
 use Rattle.hopf.specs.declared.product.Lexeme.TheVariants as lexeme
-use Rattle.hopf.specs.declared.tokens.Kind.TheVariants as kind
-use Rattle.hopf.specs.declared.tokens.Token.{Token}
+use Rattle.session_lang.specs.declared.token.Kind.TheVariants as kind
+use Rattle.session_lang.specs.declared.token.Token.{Token}
 use Rattle.hopf.specs.Products.{IsProduct, lexemes_of, product_lexemes}
-use Rattle.hopf.specs.Tokens.{AreTokens, at_end, token}
+use Rattle.session_lang.specs.Tokens.{AreTokens, at_end, token}
 use Rattle.hopf.specs.Text.{value_text}
 use Rattle.hopf.specs.Values.{IsValueOf}
 use Rattle.hopf.proofs.Lexemes.{product_once}

@@ -11,7 +11,7 @@ use Rattle.hopf.specs.declared.session.Session.{Session}
 use Rattle.hopf.specs.declared.session.SessionFault.{SessionFault}
 use Rattle.hopf.specs.Outcomes.{line_of, is_refusal}
 use Rattle.hopf.proofs.OneOutcome.{outcome_once}
-use Rattle.hopf.specs.Tokens.{is_blank}
+use Rattle.session_lang.specs.Tokens.{is_blank}
 use Rattle.hopf.specs.Transcript.{is_end, IsScript, lines, some_refused, unfinished, IsText}
 use Rattle.hopf.specs.Sessions.{Script, Same, Continues, Advances, Stops, WritesIfSteady, Ends, EndStops, EndIfSteady, Runs, StopsWhole, last_of}
 use Rattle.std.proofs.lemmas.List.{nil_from_length}

@@ -4,7 +4,7 @@ use Rattle.std.specs.List.{slice_split, onto_first}
 use Rattle.std.proofs.lemmas.List.Splits.{slice_split_none, slice_split_at}
 use Rattle.hopf.specs.declared.statement.Outcome.{Outcome}
 use Rattle.hopf.specs.Outcomes.{IsOutcome}
-use Rattle.hopf.specs.Tokens.{is_blank}
+use Rattle.session_lang.specs.Tokens.{is_blank}
 use Rattle.hopf.specs.Transcript.{is_end, trimmed, unfinished, is_none, AreOutcomes, IsScript, starts_blank, IsText}
 
 pub trimmed_text : (text : List ℕ) → starts_blank text ≡ false → trimmed text ≡ text

@@ -6,7 +6,6 @@ pub mod Runs
 pub mod Sessions
 pub mod Statuses
 pub mod Text
-pub mod Tokens
 pub mod Transcript
 pub mod Values
 pub mod Words

@@ -2,8 +2,8 @@
 use Rattle.std.specs.Prelude.{◌≡◌, ℕ, List, [], ◌∷◌, ◌++◌}
 use Rattle.hopf.specs.declared.product.Lexeme.{Lexeme}
 use Rattle.hopf.specs.declared.product.Lexeme.TheVariants as lexeme
-use Rattle.hopf.specs.declared.tokens.Token.{Token}
-use Rattle.hopf.specs.Tokens.{AreTokens}
+use Rattle.session_lang.specs.declared.token.Token.{Token}
+use Rattle.session_lang.specs.Tokens.{AreTokens}
 use Rattle.hopf.specs.Products.{lexemes_of, list_lexemes, IsWithinLimit}
 
 -- what the tokens of a text are in a product

@@ -5,10 +5,10 @@ use Rattle.std.specs.Str.{bytes_eq}
 use Rattle.linear_combos.specs.Indices.{IsComposition}
 use Rattle.hopf.specs.declared.product.Lexeme.{Lexeme}
 use Rattle.hopf.specs.declared.product.Lexeme.TheVariants as lexeme
-use Rattle.hopf.specs.declared.tokens.Kind.{Kind}
-use Rattle.hopf.specs.declared.tokens.Kind.TheVariants as kind
-use Rattle.hopf.specs.declared.tokens.Token.{Token}
-use Rattle.hopf.specs.Tokens.{AreTokens}
+use Rattle.session_lang.specs.declared.token.Kind.{Kind}
+use Rattle.session_lang.specs.declared.token.Kind.TheVariants as kind
+use Rattle.session_lang.specs.declared.token.Token.{Token}
+use Rattle.session_lang.specs.Tokens.{AreTokens}
 
 -- the value of digits that follow a number
 abbrev pub number_from : ℕ → List ℕ → ℕ

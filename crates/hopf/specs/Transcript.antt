@@ -5,7 +5,7 @@ use Rattle.hopf.specs.declared.statement.Outcome.{Outcome}
 use Rattle.hopf.specs.declared.statement.Outcome.TheVariants.{Refused}
 use Rattle.hopf.specs.declared.statement.StatementRefusal.TheVariants.{NotBuilt}
 use Rattle.hopf.specs.Outcomes.{IsOutcome, line_of, is_refusal}
-use Rattle.hopf.specs.Tokens.{is_blank}
+use Rattle.session_lang.specs.Tokens.{is_blank}
 
 -- `;` ends a statement
 abbrev pub is_end : ℕ → Bool

@@ -11,7 +11,6 @@ mod statement;
 mod status;
 #[cfg(test)]
 mod tests;
-mod tokens;
 mod words;
 
 use hopf_io::{StdSink, StdSource};

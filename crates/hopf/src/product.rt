@@ -4,7 +4,7 @@ ghost use Rattle.hopf.specs.declared.product.Lexeme.{Lexeme};
 ghost use Rattle.hopf.specs.Products.{number_from, sign_lexeme as lexeme_of_sign, lexeme_of as lexeme_of_bytes, bytes_of, list_lexemes, IsWithinLimit, IsProduct};
 ghost use Rattle.hopf.specs.ProductSteps.{AreLexemes, HasNoList, IsElement, HasNoElement, IsLastFactor, HasNoLastFactor};
 
-use crate::tokens::{Kind, Token, tokens};
+use session_lang::{Kind, Token, tokens};
 use compositions::Composition;
 use hopf_num::OutOfMemory;
 use std::alloc::Global;
@@ -95,7 +95,7 @@ fn lexemes(alloc: Global, text: &[u8]) -> Result<Vec<Lexeme>, OutOfMemory>
 {
     let tokens = tokens(alloc, text)?;
     let mut out = Vec::new(alloc);
-    for token in &tokens {
+    for token in tokens.as_slice() {
         out.push(lexeme_of(token.kind, slice_of(text, *token)))?;
     }
     Ok(out)

@@ -1,8 +1,8 @@
 -- The tokens of a text.
 use Rattle.std.specs.Prelude.{◌≡◌, ℕ, ◌+◌, Bool, true, false, List, [], ◌∷◌, ◌||◌, ◌&&◌, nat_eq, nat_le, drop, if◌then◌else◌}
-use Rattle.hopf.specs.declared.tokens.Kind.{Kind}
-use Rattle.hopf.specs.declared.tokens.Kind.TheVariants as kind
-use Rattle.hopf.specs.declared.tokens.Token.{Token}
+use Rattle.session_lang.specs.declared.token.Kind.{Kind}
+use Rattle.session_lang.specs.declared.token.Kind.TheVariants as kind
+use Rattle.session_lang.specs.declared.token.Token.{Token}
 
 -- space, tab, line feed, carriage return
 abbrev pub is_blank : ℕ → Bool

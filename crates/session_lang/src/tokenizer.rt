@@ -1,33 +1,10 @@
 //! The tokens of a text.
 ghost use Rattle.std.specs.Prelude.{◌≡◌, ℕ, ◌+◌, ◌<◌, ◌≤◌, List, [], ◌∷◌, ◌++◌, IfOk, length, drop, slice_index};
-ghost use Rattle.hopf.specs.Tokens.{is_blank as is_blank_byte, is_digit as is_digit_byte, is_letter as is_letter_byte, is_word_byte as is_byte_of_word, is_sign as is_sign_byte, digit_run, word_run, starts_with_byte, first_token, AreTokens};
+ghost use Rattle.session_lang.specs.Tokens.{is_blank as is_blank_byte, is_digit as is_digit_byte, is_letter as is_letter_byte, is_word_byte as is_byte_of_word, is_sign as is_sign_byte, digit_run, word_run, starts_with_byte, first_token, AreTokens};
 
+use crate::{Kind, Token, Tokens};
 use hopf_num::OutOfMemory;
 use std::alloc::Global;
-
-/// What a token is.
-#[derive(Clone, Copy, Debug, PartialEq, Eq)]
-pub enum Kind {
-    /// A longest run of digits.
-    Number,
-    /// A letter followed by a longest run of letters, digits, `_` and `.`.
-    Word,
-    /// One of `[`, `]`, `(`, `)`, `,`, `+`, `-`, `*`, `/`, `#`, `:=` and `==`.
-    Sign,
-    /// A byte that fits nowhere.
-    Other,
-    /// The end of the text.
-    End,
-}
-
-/// A token: its kind, its place, which is 1 plus the number of bytes before it, and its length in
-/// bytes.
-#[derive(Clone, Copy, Debug, PartialEq, Eq)]
-pub struct Token {
-    pub kind: Kind,
-    pub place: u32,
-    pub length: u32,
-}
 
 /// Whether a byte is a space, a tab, a line feed or a carriage return.
 pub fn is_blank(byte: u8) -> bool
@@ -122,7 +99,16 @@ fn token_at(byte: u8, rest: &[u8]) -> (Kind, usize)
 }
 
 /// The tokens of a text of at most 65,536 bytes, in order, and its end.
-pub fn tokens(alloc: Global, text: &[u8]) -> Result<Vec<Token>, OutOfMemory>
+pub fn tokens(alloc: Global, text: &[u8]) -> Result<Tokens, OutOfMemory>
+    requires { length text.now ≤ 65536 }
+    ensures { IfOk result (AreTokens 1 text.now) }
+{
+    let items = token_list(alloc, text)?;
+    Ok(Tokens::from_vec(items))
+}
+
+// The same as a vector.
+fn token_list(alloc: Global, text: &[u8]) -> Result<Vec<Token>, OutOfMemory>
     requires { length text.now ≤ 65536 }
     ensures { IfOk result (λ ts. AreTokens 1 text.now ts.items) }
 {

@@ -3,10 +3,10 @@ use Rattle.std.proofs.Common.{◌≡◌, ℕ, ◌+◌, ◌<◌, ◌≤◌, true,
 use Rattle.std.proofs.lemmas.List.{drop-drop}
 use Rattle.std.proofs.Math.ListN.{drop_of_length-le}
 use Rattle.std.proofs.Math.Seq.{take-length}
-use Rattle.hopf.specs.declared.tokens.Kind.{Kind}
-use Rattle.hopf.specs.declared.tokens.Kind.TheVariants as kind
-use Rattle.hopf.specs.declared.tokens.Token.{Token}
-use Rattle.hopf.specs.Tokens.{is_blank, first_token, token, AreTokens, at_end, blank, next}
+use Rattle.session_lang.specs.declared.token.Kind.{Kind}
+use Rattle.session_lang.specs.declared.token.Kind.TheVariants as kind
+use Rattle.session_lang.specs.declared.token.Token.{Token}
+use Rattle.session_lang.specs.Tokens.{is_blank, first_token, token, AreTokens, at_end, blank, next}
 
 front : (text : List ℕ) (i : ℕ) → i < length text → drop i text ≡ get_or text i 0 ∷ drop (i + 1) text
 front text i h = rw (add-one, drop-cons text i 0)

@@ -1,6 +1,6 @@
 use Rattle.std.proofs.Common.{sym, ◌∙◌, arith, append_assoc}
-use Rattle.hopf.proofs.TokenSteps.{tokens-blank, tokens-next, tokens-end}
-use Rattle.hopf.proofs.tokens.tokens.Goals as goal
+use Rattle.session_lang.proofs.TokenSteps.{tokens-blank, tokens-next, tokens-end}
+use Rattle.session_lang.proofs.tokenizer.token_list.Goals as goal
 
 pub loop-i-preserved-then-is_blank : goal.loop-i-preserved-then-is_blank
 loop-i-preserved-then-is_blank c = (omega arith, λ ts h. c.loop-i.invariant.1 ts (tokens-blank c.args.text.now c.loop-i.i ts (omega arith) (sym c.is_blank.ensures ∙ c.if-is_blank.true) h))
