@@ -4,9 +4,9 @@ ghost use Rattle.hopf.specs.declared.product.Lexeme.{Lexeme};
 ghost use Rattle.hopf.specs.Products.{number_from, sign_lexeme as lexeme_of_sign, lexeme_of as lexeme_of_bytes, bytes_of, list_lexemes, IsWithinLimit, IsProduct};
 ghost use Rattle.hopf.specs.ProductSteps.{AreLexemes, HasNoList, IsElement, HasNoElement, IsLastFactor, HasNoLastFactor};
 
-use session_lang::{Kind, Token, tokens};
 use compositions::Composition;
 use hopf_num::OutOfMemory;
+use session_lang::{Kind, Token, tokens};
 use std::alloc::Global;
 
 /// The limit of the degree of QSym.

@@ -4,9 +4,9 @@ ghost use Rattle.hopf.specs.Transcript.{IsText, lines, some_refused};
 ghost use Rattle.hopf.specs.declared.statement.Outcome.{Outcome};
 
 use crate::statement::{Outcome, StatementRefusal, evaluate, line_of};
-use session_lang::is_blank;
 use hopf_io::{Bytes, Failed, Sink, send_all};
 use hopf_num::OutOfMemory;
+use session_lang::is_blank;
 use std::alloc::Global;
 
 /// Why a session stopped.

@@ -15,7 +15,12 @@ use std::alloc::Global;
 /// Appends a basis element: the name of the basis, and the spelling of the index.
 ///
 /// After an error nothing was appended.
-pub fn print_index(alloc: Global, basis: BasisId, code: &Code, out: &mut Bytes) -> Result<(), OutOfMemory>
+pub fn print_index(
+    alloc: Global,
+    basis: BasisId,
+    code: &Code,
+    out: &mut Bytes,
+) -> Result<(), OutOfMemory>
     ensures ok { OnOk result (out.new ≡ out.old ++ index_text basis code.now) }
     ensures err { OnErr result (out.new ≡ out.old) }
 {
@@ -39,7 +44,12 @@ fn append_numbers(alloc: Global, numbers: &[u8], out: &mut Bytes) -> Result<(), 
 }
 
 // Appends a basis element.
-fn append_index(alloc: Global, basis: BasisId, code: &Code, out: &mut Bytes) -> Result<(), OutOfMemory>
+fn append_index(
+    alloc: Global,
+    basis: BasisId,
+    code: &Code,
+    out: &mut Bytes,
+) -> Result<(), OutOfMemory>
     ensures { OnOk result (out.new ≡ out.old ++ index_text basis code.now) }
 {
     match basis {
@@ -121,7 +131,11 @@ fn append_term(
 }
 
 // Appends an absolute coefficient and `*`, or nothing where it is 1.
-fn append_coefficient(alloc: Global, coefficient: &Fraction, out: &mut Bytes) -> Result<(), OutOfMemory>
+fn append_coefficient(
+    alloc: Global,
+    coefficient: &Fraction,
+    out: &mut Bytes,
+) -> Result<(), OutOfMemory>
     ensures { OnOk result (out.new ≡ out.old ++ coefficient_text coefficient.now) }
 {
     let size = coefficient.num().unsigned_abs();
