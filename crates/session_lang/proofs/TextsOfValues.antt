@@ -1,5 +1,5 @@
 -- The text of a value, term by term.
-use Rattle.std.proofs.Common.{◌≡◌, ℕ, suc, ◌+◌, ◌<◌, ◌≤◌, List, [], ◌∷◌, ◌++◌, length, drop, refl, sym, ◌∙◌, ap, subst, arith, inl, inr, add-one, drop-cons}
+use Rattle.std.proofs.Common.{◌≡◌, ℕ, ◌+◌, ◌<◌, ◌≤◌, List, [], ◌∷◌, ◌++◌, length, drop, refl, sym, ◌∙◌, ap, subst, arith, inl, inr, add-one, drop-cons}
 use Rattle.std.specs.Prelude.{pos, codes}
 use Rattle.std.proofs.Math.ListN.{drop_of_length-le}
 use Rattle.hopf_num.specs.Fractions.{Ratio, fraction_text}

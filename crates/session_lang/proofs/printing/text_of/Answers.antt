@@ -2,7 +2,7 @@ use Rattle.std.proofs.Common.{◌≡◌, ◌≤◌, ◌<◌, [], ◌++◌, lengt
 use Rattle.std.specs.Int.{w128}
 use Rattle.std.proofs.lemmas.Int.{to_z-of_z}
 use Rattle.linear_combos.specs.Combos.{term_at}
-use Rattle.session_lang.specs.Text.{IsCoefficient, IsTextOf, term_text, later_sign}
+use Rattle.session_lang.specs.Text.{IsTextOf, term_text, later_sign}
 use Rattle.session_lang.proofs.TextsOfValues.{first_term, next_term, no_term, zero_text_of, scalar_text_of}
 use Rattle.session_lang.proofs.printing.text_of.Goals as goal
 
