@@ -1,2 +1,5 @@
+pub mod Faults
+pub mod Grammar
+pub mod Lexemes
 pub mod Text
 pub mod Tokens

@@ -1,12 +1,22 @@
 //! The session language: tokens, and the text of values.
 #![tactic(auto)]
 
+mod expression;
+mod fault;
+mod index;
+mod lexeme;
 mod printing;
+mod scans;
 #[cfg(test)]
 mod tests;
 mod token;
 mod tokenizer;
 
+pub use expression::{BasisList, Expr, Factor, Linear, Name, Signed, Statement};
+pub use fault::GrammarFault;
+pub use index::{element_of, index_in};
+pub use lexeme::{Lexeme, NUMBER_LIMIT, lexeme_of};
 pub use printing::{print_index, print_value};
+pub use scans::{DEPTH_LIMIT, Sight, first_seen, is_too_deep};
 pub use token::{Kind, Token, Tokens};
 pub use tokenizer::{is_blank, tokens};

@@ -83,3 +83,124 @@ fn texts_of_elements(rt: HostRuntime) -> Result<(), Fail> {
     assert!(rt; prints(rt.alloc(), &element, b"QSym.M[2,1]")?);
     Ok(())
 }
+
+/// Whether the bytes, as a token of the kind, are this reserved word.
+fn is_reserved(alloc: Global, word: &[u8]) -> Result<bool, Fail> {
+    let lexeme = lexeme_of(alloc, Kind::Word, word)?;
+    Ok(matches!(lexeme, Lexeme::Reserved(_)))
+}
+
+/// Whether the bytes are a name.
+fn is_name(alloc: Global, word: &[u8]) -> Result<bool, Fail> {
+    let lexeme = lexeme_of(alloc, Kind::Word, word)?;
+    Ok(matches!(lexeme, Lexeme::Name(_)))
+}
+
+/// What words stand for.
+#[test]
+fn words(rt: HostRuntime) -> Result<(), Fail> {
+    assert!(rt; is_reserved(rt.alloc(), b"QSym")?);
+    assert!(rt; is_reserved(rt.alloc(), b"in")?);
+    assert!(rt; !is_reserved(rt.alloc(), b"coproduct")?);
+    assert!(rt; is_name(rt.alloc(), b"inn")?);
+    assert!(rt; is_name(rt.alloc(), b"coProduct")?);
+    assert!(rt; !is_name(rt.alloc(), b"pair")?);
+    assert!(rt; !is_name(rt.alloc(), b"QSym.M")?);
+    assert!(rt; !is_name(rt.alloc(), b"x.y")?);
+    Ok(())
+}
+
+/// The value of a number, as it is counted.
+fn number(alloc: Global, digits: &[u8]) -> Result<u128, Fail> {
+    match lexeme_of(alloc, Kind::Number, digits)? {
+        Lexeme::Number(number) => Ok(number),
+        _ => Ok(0),
+    }
+}
+
+/// Numbers around the limit.
+#[test]
+fn numbers(rt: HostRuntime) -> Result<(), Fail> {
+    assert_eq!(rt; number(rt.alloc(), b"0012")?, 12);
+    assert_eq!(rt;
+        number(rt.alloc(), b"170141183460469231731687303715884105727")?,
+        NUMBER_LIMIT - 1
+    );
+    assert_eq!(rt;
+        number(rt.alloc(), b"170141183460469231731687303715884105728")?,
+        NUMBER_LIMIT
+    );
+    assert_eq!(rt;
+        number(rt.alloc(), b"999999999999999999999999999999999999999999")?,
+        NUMBER_LIMIT
+    );
+    Ok(())
+}
+
+/// What the tokens of a text stand for, with the end.
+fn lexemes(alloc: Global, text: &[u8]) -> Result<Vec<Lexeme>, Fail> {
+    let mut lexemes = Vec::new(alloc);
+    if text.len() > 65_536 {
+        return Ok(lexemes);
+    }
+    for token in tokens(alloc, text)?.as_slice() {
+        let from = (token.place as usize).saturating_sub(1);
+        let bytes = text
+            .get(from..from.saturating_add(token.length as usize))
+            .ok_or("no bytes")?;
+        lexemes.push(lexeme_of(alloc, token.kind, bytes)?)?;
+    }
+    Ok(lexemes)
+}
+
+/// Where in its tokens something is first seen.
+fn seen(alloc: Global, sight: Sight, text: &[u8]) -> Result<Option<usize>, Fail> {
+    let lexemes = lexemes(alloc, text)?;
+    Ok(first_seen(alloc, sight, lexemes.as_slice()))
+}
+
+/// Large numbers, later forms and bad lists.
+#[test]
+fn sights(rt: HostRuntime) -> Result<(), Fail> {
+    let large = b"1 + 170141183460469231731687303715884105728";
+    assert_eq!(rt; seen(rt.alloc(), Sight::LargeNumber, large)?, Some(2));
+    assert_eq!(rt; seen(rt.alloc(), Sight::LargeNumber, b"1 + 17")?, None);
+    assert_eq!(rt; seen(rt.alloc(), Sight::LaterForm, b"x == y")?, Some(1));
+    assert_eq!(rt;
+        seen(rt.alloc(), Sight::LaterForm, b"1 + QSym.M(x)")?,
+        Some(2)
+    );
+    assert_eq!(rt;
+        seen(rt.alloc(), Sight::LaterForm, b"x := QSym.M[1]")?,
+        None
+    );
+    assert_eq!(rt;
+        seen(rt.alloc(), Sight::BadList, b"QSym.M[1] + QSym.M[2,0]")?,
+        Some(5)
+    );
+    assert_eq!(rt; seen(rt.alloc(), Sight::BadList, b"QSym.M[11]")?, Some(0));
+    assert_eq!(rt; seen(rt.alloc(), Sight::BadList, b"QSym.M[[1]]")?, Some(0));
+    assert_eq!(rt;
+        seen(rt.alloc(), Sight::BadList, b"QSym.M[1,2] + QSym.M[10]")?,
+        None
+    );
+    Ok(())
+}
+
+/// A text with so many brackets in it is too deep.
+fn is_deep(alloc: Global, brackets: usize) -> Result<bool, Fail> {
+    let mut text = Bytes::new(alloc);
+    for _ in 0..brackets {
+        text.push_all(b"(")?;
+    }
+    let lexemes = lexemes(alloc, text.as_slice())?;
+    Ok(is_too_deep(lexemes.as_slice()))
+}
+
+/// 64 and 65 brackets, and brackets that close.
+#[test]
+fn depth(rt: HostRuntime) -> Result<(), Fail> {
+    assert!(rt; !is_deep(rt.alloc(), 64)?);
+    assert!(rt; is_deep(rt.alloc(), 65)?);
+    Ok(())
+}
