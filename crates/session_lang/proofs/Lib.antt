@@ -1,5 +1,14 @@
+pub mod Accepted
+pub mod CallSteps
+pub mod FineSteps
+pub mod LexemesOfTokens
+pub mod ListSteps
 pub mod Numbers
+pub mod ReachedStates
 pub mod Spellings
+pub mod StatementSteps
+pub mod StepsByState
+pub mod SumSteps
 pub mod Texts
 pub mod TextsOfValues
 pub mod TokenSteps

@@ -188,6 +188,14 @@ word_of lex.Pair = Some (codes "pair")
 word_of lex.Along = Some (codes "along")
 word_of _ = None
 
+abbrev pub is_some : Option (List ℕ) → Bool
+is_some None = false
+is_some (Some w) = true
+
+-- the lexeme is a word
+abbrev pub is_word : Lexeme → Bool
+is_word t = is_some (word_of t)
+
 pub data IsStatement : List Lexeme → Statement → Type 0 where
   nothing : IsStatement [] s.Empty
   assign : {t : Lexeme} {w : List ℕ} {ts : List Lexeme} {x : Expr} → word_of t ≡ Some w → Sum ts [] x → IsStatement (t ∷ lex.Assign ∷ ts) (s.Assign w x)

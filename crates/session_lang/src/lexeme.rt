@@ -1,7 +1,7 @@
 //! What each token of a statement stands for.
 ghost use Rattle.std.specs.Prelude.{◌≡◌, ℕ, ◌≤◌, ◌↔◌, ◌^◌, min, length, IsTrue, IfOk};
 ghost use Rattle.session_lang.specs.Text.{name_of};
-ghost use Rattle.session_lang.specs.Grammar.{name_of_map as spelling_of_map, word_of as word_of_lexeme};
+ghost use Rattle.session_lang.specs.Grammar.{name_of_map as spelling_of_map, word_of as word_of_lexeme, is_word};
 ghost use Rattle.session_lang.specs.Lexemes.{number_from, later_bases, silent_words, is_among, has_point as has_a_point, pointed_lexeme as lexeme_with_point, plain_lexeme as lexeme_without_point, word_lexeme as lexeme_of_word, sign_lexeme as lexeme_of_sign, lexeme_of as lexeme_of_bytes};
 
 use crate::{Kind, Linear, Name};
@@ -216,6 +216,22 @@ fn name_of_basis(basis: BasisId) -> &'static [u8]
 }
 
 impl Lexeme {
+    /// Whether it is a name, a reserved word or the name of a basis.
+    pub fn is_word(&self) -> bool
+        ensures { result ≡ is_word self.now }
+    {
+        matches!(
+            self,
+            Lexeme::Name(_)
+                | Lexeme::Reserved(_)
+                | Lexeme::LaterBasis(_)
+                | Lexeme::Basis(_)
+                | Lexeme::Linear(_)
+                | Lexeme::Pair
+                | Lexeme::Along
+        )
+    }
+
     /// The spelling of a name, of a reserved word or of a basis; nothing for any other lexeme.
     pub fn word(&self, alloc: Global) -> Result<Option<Name>, OutOfMemory>
         ensures { IfOk result (λ word. word ≡ word_of_lexeme self.now) }

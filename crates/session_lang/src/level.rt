@@ -1,0 +1,154 @@
+//! The parts of an open sum, and its value.
+ghost use Rattle.std.specs.Prelude.{◌≡◌, IfOk};
+ghost use Rattle.session_lang.specs.Grammar.{product_of as product_value, tensor_of as tensor_value, sum_of as sum_value};
+ghost use Rattle.session_lang.specs.ParserSteps.{fresh as fresh_level, push, next_tensor as level_behind_hash, next_part as level_behind_sign, value_of as level_value};
+
+use crate::state::{Call, Level};
+use crate::{Expr, Factor, Signed};
+use hopf_num::OutOfMemory;
+use sqlite_items::Items;
+use std::alloc::Global;
+
+// A product; of one part, that part.
+fn product_of(mut factors: Items<Factor>) -> Expr
+    ensures { result ≡ product_value factors }
+{
+    if factors.len() != 1 {
+        return Expr::Product(factors);
+    }
+    match factors.pop() {
+        Some(factor) => {
+            let Factor { divides: _, value } = factor;
+            value
+        }
+        None => Expr::Product(factors),
+    }
+}
+
+// A tensor product; of one part, that part.
+fn tensor_of(mut parts: Items<Expr>) -> Expr
+    ensures { result ≡ tensor_value parts }
+{
+    if parts.len() != 1 {
+        return Expr::Tensor(parts);
+    }
+    match parts.pop() {
+        Some(part) => part,
+        None => Expr::Tensor(parts),
+    }
+}
+
+// A sum; of one part without a sign, that part.
+fn sum_of(mut parts: Items<Signed>) -> Result<Expr, OutOfMemory>
+    ensures { IfOk result (λ x. x ≡ sum_value parts) }
+{
+    if parts.len() != 1 {
+        return Ok(Expr::Sum(parts));
+    }
+    match parts.pop() {
+        Some(part) => {
+            if part.minus {
+                parts.push(part)?;
+                return Ok(Expr::Sum(parts));
+            }
+            let Signed { minus: _, value } = part;
+            Ok(value)
+        }
+        None => Ok(Expr::Sum(parts)),
+    }
+}
+
+impl Level {
+    /// A level in which nothing was read but a sign. It takes no memory.
+    pub fn fresh(alloc: Global, minus: bool) -> Level
+        ensures { result ≡ fresh_level minus }
+    {
+        Level {
+            parts: Items::new(alloc),
+            minus,
+            tensor: Items::new(alloc),
+            factors: Items::new(alloc),
+            divides: false,
+            call: Call::Group,
+        }
+    }
+
+    /// The level with one more factor.
+    pub fn pushed(mut self, value: Expr) -> Result<Level, OutOfMemory>
+        ensures { IfOk result (λ l. l ≡ push value self) }
+    {
+        let divides = self.divides;
+        self.factors.push(Factor { divides, value })?;
+        Ok(self)
+    }
+
+    /// The level behind `#`.
+    pub fn next_tensor(self, alloc: Global) -> Result<Level, OutOfMemory>
+        ensures { IfOk result (λ l. l ≡ level_behind_hash self) }
+    {
+        let Level {
+            parts,
+            minus,
+            mut tensor,
+            factors,
+            divides: _,
+            call,
+        } = self;
+        tensor.push(product_of(factors))?;
+        Ok(Level {
+            parts,
+            minus,
+            tensor,
+            factors: Items::new(alloc),
+            divides: false,
+            call,
+        })
+    }
+
+    /// The level behind `+`, or `-`.
+    pub fn next_part(self, alloc: Global, is_minus: bool) -> Result<Level, OutOfMemory>
+        ensures { IfOk result (λ l. l ≡ level_behind_sign is_minus self) }
+    {
+        let Level {
+            mut parts,
+            minus,
+            mut tensor,
+            factors,
+            divides: _,
+            call,
+        } = self;
+        tensor.push(product_of(factors))?;
+        parts.push(Signed {
+            minus,
+            value: tensor_of(tensor),
+        })?;
+        Ok(Level {
+            parts,
+            minus: is_minus,
+            tensor: Items::new(alloc),
+            factors: Items::new(alloc),
+            divides: false,
+            call,
+        })
+    }
+
+    /// The sum of the level.
+    pub fn value(self) -> Result<Expr, OutOfMemory>
+        ensures { IfOk result (λ x. x ≡ level_value self) }
+    {
+        let Level {
+            mut parts,
+            minus,
+            mut tensor,
+            factors,
+            divides: _,
+            call: _,
+        } = self;
+        tensor.push(product_of(factors))?;
+        parts.push(Signed {
+            minus,
+            value: tensor_of(tensor),
+        })?;
+        sum_of(parts)
+    }
+}
