@@ -1,86 +1,51 @@
--- Every list of bytes has a transcript: texts have tokens, and outcomes by what they spell.
-use Rattle.std.proofs.Common.{◌≡◌, ℕ, ◌+◌, ◌≤◌, ◌⊎◌, inl, inr, zero, suc, Bool, true, false, cond, List, [], ◌∷◌, ◌++◌, length, drop, refl, arith, length-drop}
+-- Every list of bytes has a transcript.
+use Rattle.std.proofs.Common.{◌≡◌, ℕ, zero, suc, ◌≤◌, ◌⊎◌, inl, inr, Bool, true, false, Option, Some, None, List, [], ◌∷◌, Result, Ok, Err, length, refl, sym, ◌∙◌, ap, subst, arith}
 use Rattle.std.specs.List.{sum, slice_split}
-use Rattle.std.proofs.lemmas.Bool.{cases_lt, cases_Bool}
-use Rattle.linear_combos.specs.Combos.{Combination}
+use Rattle.std.proofs.lemmas.Bool.{cases_lt}
 use Rattle.linear_combos.specs.Indices.{IsComposition}
-use Rattle.linear_combos.specs.Readings.{element, product}
-use Rattle.linear_combos.specs.Rows.{qsym_m}
-use Rattle.hopf.specs.declared.product.Lexeme.{Lexeme}
-use Rattle.hopf.specs.declared.product.Lexeme.TheVariants as lexeme
+use Rattle.hopf_laws.specs.declared.bases.BasisId.{BasisId}
+use Rattle.hopf_laws.specs.declared.bases.BasisId.TheVariants.{QsymM}
+use Rattle.hopf_laws.specs.Values.{Expansion}
+use Rattle.basis_routes.specs.Rules.{IsIndexWithin}
+use Rattle.session_lang.specs.declared.expression.Expr.{Expr, out-Expr}
+use Rattle.session_lang.specs.declared.expression.Expr.TheOpen.{Expr-F}
+use Rattle.session_lang.specs.declared.expression.Expr.TheOpen as o
+use Rattle.session_lang.specs.declared.expression.Expr.TheVariants as e
+use Rattle.session_lang.specs.declared.expression.Expr.TheViews.{roll-Expr, roll-out-Expr}
+use Rattle.session_lang.specs.declared.expression.Factor.{Factor}
+use Rattle.session_lang.specs.declared.expression.Signed.{Signed}
+use Rattle.session_lang.specs.declared.expression.Statement.{Statement}
+use Rattle.session_lang.specs.declared.expression.Statement.TheVariants as s
+use Rattle.session_lang.specs.declared.fault.GrammarFault.{GrammarFault}
+use Rattle.session_lang.specs.declared.fault.GrammarFault.TheVariants as fault
+use Rattle.session_lang.specs.Grammar.{factor}
+use Rattle.session_lang.specs.Parses.{IsAnswer}
+use Rattle.session_lang.proofs.OneAnswer.{answer_exists}
+use Rattle.hopf.specs.declared.refusal.StatementRefusal.TheVariants as refusal
 use Rattle.hopf.specs.declared.statement.Outcome.{Outcome}
-use Rattle.hopf.specs.declared.statement.Outcome.TheVariants.{Empty, Printed, Refused}
-use Rattle.hopf.specs.declared.statement.StatementRefusal.TheVariants.{NotBuilt, Degree}
-use Rattle.session_lang.specs.declared.token.Kind.{Kind}
-use Rattle.session_lang.specs.declared.token.Kind.TheVariants as kind
-use Rattle.session_lang.specs.declared.token.Token.{Token}
-use Rattle.hopf.specs.Outcomes.{IsOutcome, empty, printed, past_limit, not_built}
-use Rattle.hopf.specs.Products.{lexemes_of, later_parts, list_lexemes, IsWithinLimit, IsProduct}
-use Rattle.hopf.specs.ProductSteps.{AreLexemes, HasNoList, IsElement, HasNoElement, IsLastFactor, HasNoLastFactor}
-use Rattle.hopf.specs.Text.{value_text}
-use Rattle.session_lang.specs.Tokens.{is_blank, first_token, token, AreTokens, at_end, blank, next}
+use Rattle.hopf.specs.declared.statement.Outcome.TheVariants.{Empty, Refused}
+use Rattle.hopf.specs.Outcomes.{element_value, IsProduct, product_of_elements, printed_product, IsEvaluated, IsOutcomeOf, empty, product, not_built, IsOutcome, too_long, refused, read}
 use Rattle.hopf.specs.Transcript.{is_end, trimmed, unfinished, AreOutcomes, IsScript}
-use Rattle.hopf.specs.Values.{IsValueOf}
-use Rattle.hopf.proofs.Lexemes.{later_of_later, nothing_later, no_index, element_of_factor, no_end, no_product, no_right}
+use Rattle.hopf.proofs.ElementProducts.{evaluation_exists}
+use Rattle.hopf.proofs.Products.{elements, not-assigned, not-equal, not-other, not-two, not-first, not-second, no-first-index, no-second-index, divided, not-empty-print, not-empty-assign, not-empty-equal, factors_open, factors_in, factors_in-product, element_open, element_in, element_in-element}
 
--- Of two tokens that are not empty, the chosen one is not.
-cond-positive : (c : Bool) (x y : Kind × ℕ) → 1 ≤ x.1 → 1 ≤ y.1 → 1 ≤ (cond c x y).1
-cond-positive true x y h k = h
-cond-positive false x y h k = k
+-- An expression is a product, or not.
+product-seen : (x : Expr) (y : Expr-F Expr Factor Signed) → out-Expr x ≡ y → ((fs : List Factor) × (x ≡ e.Product fs)) ⊎ (factors_in x ≡ None)
+product-seen x (o.Product fs) is = inl (fs, sym (roll-out-Expr x) ∙ ap roll-Expr is ∙ e.rolls-Product fs)
+product-seen x y is = inr (ap factors_open is)
 
--- A token takes at least one byte.
-first_token-positive : (b : ℕ) (bs : List ℕ) → 1 ≤ (first_token b bs).1
-first_token-positive b bs = search (arith, cond-positive)
+not-product : (x : Expr) → factors_in x ≡ None → (fs : List Factor) → x ≡ e.Product fs → ⊥
+not-product x none fs is = let seen : None ≡ Some fs = sym none ∙ ap factors_in is ∙ factors_in-product fs in absurd (cc)
 
--- A text of a bounded length has tokens, at whatever place it begins.
-tokens_within : (bound p : ℕ) (text : List ℕ) → length text ≤ bound → (ts : List Token) × AreTokens p text ts
-tokens_within bound p [] short = (token kind.End p 0 ∷ [], at_end)
-tokens_within zero p (b ∷ bs) short = absurd (omega arith)
-tokens_within (suc bound) p (b ∷ bs) short =
-    let n : ℕ = (first_token b bs).1 in
-    let positive : 1 ≤ n = first_token-positive b bs in
-    let behind : length bs ≤ bound = omega arith in
-    let fewer : length (drop n (b ∷ bs)) ≤ bound = omega (arith, length-drop n (b ∷ bs)) in
-    elim (cases_Bool (is_blank b)) [
-      | inl is ↦ let rest = tokens_within bound (p + 1) bs behind in (rest.0, blank is rest.1)
-      | inr is ↦ let rest = tokens_within bound (p + n) (drop n (b ∷ bs)) fewer in (token (first_token b bs).0 p n ∷ rest.0, next is refl rest.1)
-    ]
+-- It is an element, or not.
+element-seen : (x : Expr) (y : Expr-F Expr Factor Signed) → out-Expr x ≡ y → ((p : BasisId) × (left : List ℕ) × (x ≡ e.Element p left)) ⊎ (element_in x ≡ None)
+element-seen x (o.Element p left) is = inl (p, left, sym (roll-out-Expr x) ∙ ap roll-Expr is ∙ e.rolls-Element p left)
+element-seen x y is = inr (ap element_open is)
 
--- A text has tokens.
-pub tokens_exist : (p : ℕ) (text : List ℕ) → (ts : List Token) × AreTokens p text ts
-tokens_exist p text = tokens_within (length text) p text (omega arith)
+not-element : (x : Expr) → element_in x ≡ None → (p : BasisId) (left : List ℕ) → x ≡ e.Element p left → ⊥
+not-element x none p left is = let seen : ◌≡◌ {A = Option (BasisId × List ℕ)} None (Some (p, left)) = sym none ∙ ap element_in is ∙ element_in-element p left in absurd (cc)
 
--- The parts of a list behind its first one stand in front, or none do.
-later_decided : (lexemes : List Lexeme) → ((parts : List ℕ) × (more : List Lexeme) × (lexemes ≡ later_parts parts ++ more)) ⊎ ((parts : List ℕ) (more : List Lexeme) → lexemes ≡ later_parts parts ++ more → ⊥)
-later_decided (lexeme.Close ∷ rest) = inl ([], rest, refl)
-later_decided (lexeme.Comma ∷ lexeme.Number part ∷ rest) =
-    elim (later_decided rest) [
-      | inl found ↦ let e = found.2 in inl (part ∷ found.0, found.1, cc)
-      | inr none ↦ inr (λ parts more e. let behind = later_of_later part rest parts more e in none behind.0 more behind.1)
-    ]
-later_decided lexemes = inr (nothing_later lexemes (λ part more e. cc) (λ more e. cc))
-
--- The parts behind the first part of a list that begins so.
-later_of_list : (part : ℕ) (rest : List Lexeme) (all : List ℕ) (behind : List Lexeme) → lexeme.Open ∷ lexeme.Number part ∷ rest ≡ list_lexemes all ++ behind → (more : List ℕ) × (rest ≡ later_parts more ++ behind)
-later_of_list part rest [] behind e = absurd (cc)
-later_of_list part rest (q ∷ more) behind e = (more, cc)
-
--- A list begins with its bracket, and then ends or has a part.
-no_list_in : (lexemes : List Lexeme) → ((rest : List Lexeme) → lexemes ≡ lexeme.Open ∷ lexeme.Close ∷ rest → ⊥) → ((part : ℕ) (rest : List Lexeme) → lexemes ≡ lexeme.Open ∷ lexeme.Number part ∷ rest → ⊥) → HasNoList lexemes
-no_list_in lexemes no_end no_part [] behind e = no_end behind e
-no_list_in lexemes no_end no_part (part ∷ parts) behind e = no_part part (later_parts parts ++ behind) e
-
--- A list stands in front, or none does.
-list_decided : (lexemes : List Lexeme) → ((parts : List ℕ) × (more : List Lexeme) × (lexemes ≡ list_lexemes parts ++ more)) ⊎ HasNoList lexemes
-list_decided (lexeme.Open ∷ lexeme.Close ∷ rest) = inl ([], rest, refl)
-list_decided (lexeme.Open ∷ lexeme.Number part ∷ rest) =
-    elim (later_decided rest) [
-      | inl found ↦ let e = found.2 in inl (part ∷ found.0, found.1, cc)
-      | inr none ↦ inr (λ parts more e. let behind = later_of_list part rest parts more e in none behind.0 more behind.1)
-    ]
-list_decided lexemes = inr (no_list_in lexemes (λ rest e. cc) (λ part rest e. cc))
-
--- Parts are a composition, or not.
+-- Parts are a composition, or not; a code is an index within the limit, or not.
 composition_decided : (parts : List ℕ) → IsComposition parts ⊎ (IsComposition parts → ⊥)
 composition_decided [] = inl tt
 composition_decided (zero ∷ parts) = inr (λ h. omega (arith, h.0))
@@ -90,98 +55,92 @@ composition_decided (suc part ∷ parts) =
       | inr none ↦ inr (λ h. none h.1)
     ]
 
--- Parts are a composition within the limit, or not.
-within_decided : (parts : List ℕ) → IsWithinLimit parts ⊎ (IsWithinLimit parts → ⊥)
-within_decided parts =
-    elim (composition_decided parts) [
-      | inl h ↦ elim (cases_lt 10 (sum parts)) [
-        | inl past ↦ inr (λ is. omega (arith, is.within))
-        | inr within ↦ inl (record { composition = h; within = within })
+index_decided : (p : BasisId) (code : List ℕ) → IsIndexWithin p code ⊎ (IsIndexWithin p code → ⊥)
+index_decided QsymM code =
+    elim (composition_decided code) [
+      | inl h ↦ elim (cases_lt 10 (sum code)) [
+        | inl past ↦ inr (λ is. omega (arith, past, is.1))
+        | inr within ↦ inl (h, within)
       ]
-      | inr none ↦ inr (λ is. none is.composition)
+      | inr none ↦ inr (λ is. none is.0)
     ]
 
--- An element of an index within the limit stands in front, or none does.
-element_decided : (lexemes : List Lexeme) → ((index : List ℕ) × (rest : List Lexeme) × IsElement lexemes index rest) ⊎ HasNoElement lexemes
-element_decided (lexeme.Basis ∷ rest) =
-    elim (list_decided rest) [
-      | inl found ↦ elim (within_decided found.0) [
-        | inl within ↦ let e = found.2 in inl (found.0, found.1, record { within = within; spelled = cc })
-        | inr none ↦ inr (no_index (lexeme.Basis ∷ rest) rest found.1 found.0 refl found.2 none)
+-- A statement prints a product of two elements, or none.
+abbrev Decided : Statement → Type 0
+Decided st = ((a b : Expansion) × IsProduct st a b) ⊎ ((a b : Expansion) → IsProduct st a b → ⊥)
+
+second-decided : (p : BasisId) (left : List ℕ) (y : Expr) → IsIndexWithin p left → Decided (printed_product false (e.Element p left) false y)
+second-decided p left y h =
+    elim (element-seen y (out-Expr y) refl) [
+      | inl (q, right, is) ↦ elim (index_decided q right) [
+        | inl k ↦ inl (element_value p left, element_value q right, subst (λ (z : Expr). IsProduct (printed_product false (e.Element p left) false z) (element_value p left) (element_value q right)) (sym is) (product_of_elements h k))
+        | inr none ↦ inr (λ a b w. no-second-index (e.Element p left) q right a b none (subst (λ (z : Expr). IsProduct (printed_product false (e.Element p left) false z) a b) is w))
       ]
-      | inr none ↦ inr (λ index more is. let e = is.spelled in none index more (cc))
+      | inr other ↦ inr (λ a b w. not-second (e.Element p left) y a b (not-element y other) w)
     ]
-element_decided lexemes = inr (λ index more is. let e = is.spelled in cc)
 
--- The lexemes are the end alone, or not.
-end_decided : (lexemes : List Lexeme) → (lexemes ≡ lexeme.End ∷ []) ⊎ (lexemes ≡ lexeme.End ∷ [] → ⊥)
-end_decided (lexeme.End ∷ []) = inl refl
-end_decided lexemes = inr (λ e. cc)
-
--- The lexemes are a last factor, or not.
-last_factor_decided : (lexemes : List Lexeme) → ((index : List ℕ) × IsLastFactor lexemes index) ⊎ HasNoLastFactor lexemes
-last_factor_decided (lexeme.Times ∷ rest) =
-    elim (element_decided rest) [
-      | inl found ↦ elim (end_decided found.1) [
-        | inl last ↦ let e = found.2.spelled in inl (found.0, record { within = found.2.within; spelled = cc })
-        | inr more ↦ inr (no_end (lexeme.Times ∷ rest) rest found.1 found.0 refl found.2 more)
+first-decided : (x y : Expr) → Decided (printed_product false x false y)
+first-decided x y =
+    elim (element-seen x (out-Expr x) refl) [
+      | inl (p, left, is) ↦ elim (index_decided p left) [
+        | inl h ↦ subst (λ (z : Expr). Decided (printed_product false z false y)) (sym is) (second-decided p left y h)
+        | inr none ↦ inr (λ a b w. no-first-index p left y a b none (subst (λ (z : Expr). IsProduct (printed_product false z false y) a b) is w))
       ]
-      | inr none ↦ inr (λ index last. none index (lexeme.End ∷ []) (element_of_factor (lexeme.Times ∷ rest) rest index refl last))
+      | inr other ↦ inr (λ a b w. not-first x y a b (not-element x other) w)
     ]
-last_factor_decided lexemes = inr (λ index last. let e = last.spelled in cc)
 
--- An element and a last factor behind it are a product.
-product_of_factors : (text left right : List ℕ) (lexemes rest : List Lexeme) → length text ≤ 65536 → AreLexemes text lexemes
-    → IsElement lexemes left rest → IsLastFactor rest right → IsProduct text left right
-product_of_factors text left right lexemes rest short h first last =
-    let whole = h.spelled in
-    let front = first.spelled in
-    let behind = last.spelled in
-    record { short = short; left_index = first.within; right_index = last.within; tokens = h.tokens; are_tokens = h.are_tokens; spelled = cc }
+two-decided : (c d : Bool) (x y : Expr) → Decided (s.Print (e.Product (factor c x ∷ factor d y ∷ [])))
+two-decided true d x y = inr (λ a b w. divided (factor true x ∷ factor d y ∷ []) 0 (factor true x) a b (omega arith) refl w)
+two-decided false true x y = inr (λ a b w. divided (factor false x ∷ factor true y ∷ []) 1 (factor true y) a b (omega arith) refl w)
+two-decided false false x y = first-decided x y
 
--- A text spells a product, or none.
-pub product_decided : (text : List ℕ) → ((left right : List ℕ) × IsProduct text left right) ⊎ ((left right : List ℕ) → IsProduct text left right → ⊥)
-product_decided text =
-    let cut = tokens_exist 1 text in
-    let all : List Lexeme = lexemes_of text cut.0 in
-    let h : AreLexemes text all = record { tokens = cut.0; are_tokens = cut.1; spelled = refl } in
+factors-decided : (fs : List Factor) → Decided (s.Print (e.Product fs))
+factors-decided [] = inr (λ a b w. not-two [] a b (λ two. absurd (omega (arith, two))) w)
+factors-decided (f ∷ []) = inr (λ a b w. not-two (f ∷ []) a b (λ two. absurd (omega (arith, two))) w)
+factors-decided (f ∷ g ∷ []) = two-decided f.divides g.divides f.value g.value
+factors-decided (f ∷ g ∷ k ∷ fs) = inr (λ a b w. not-two (f ∷ g ∷ k ∷ fs) a b (λ two. absurd (omega (arith, two))) w)
+
+print-decided : (x : Expr) → Decided (s.Print x)
+print-decided x =
+    elim (product-seen x (out-Expr x) refl) [
+      | inl (fs, is) ↦ subst (λ (z : Expr). Decided (s.Print z)) (sym is) (factors-decided fs)
+      | inr other ↦ inr (λ a b w. not-other x a b (not-product x other) w)
+    ]
+
+-- A statement has an outcome.
+outcome-decided : (st : Statement) → (st ≡ s.Empty → ⊥) → Decided st → (outcome : Outcome) × IsOutcomeOf st outcome
+outcome-decided st some (inl (a, b, h)) =
+    let k = elements h in
+    let done = evaluation_exists k.p k.q k.left k.right k.left_index k.right_index in
+    (done.0, product h (subst (λ (x : Expansion). IsEvaluated x b done.0) (sym k.first) (subst (λ (y : Expansion). IsEvaluated (element_value k.p k.left) y done.0) (sym k.second) done.1)))
+outcome-decided st some (inr none) = (Refused (refusal.Grammar fault.NotBuilt), not_built some none)
+
+outcome_of_exists : (st : Statement) → (outcome : Outcome) × IsOutcomeOf st outcome
+outcome_of_exists s.Empty = (Empty, empty refl)
+outcome_of_exists (s.Assign w x) = outcome-decided (s.Assign w x) (not-empty-assign w x) (inr (not-assigned w x))
+outcome_of_exists (s.Equal x y) = outcome-decided (s.Equal x y) (not-empty-equal x y) (inr (not-equal x y))
+outcome_of_exists (s.Print x) = outcome-decided (s.Print x) (not-empty-print x) (print-decided x)
+
+-- A text has an outcome.
+pub outcome_exists : (text : List ℕ) → (outcome : Outcome) × IsOutcome text outcome
+outcome_exists text =
     elim (cases_lt 65536 (length text)) [
-      | inl long ↦ inr (λ left right is. omega (arith, is.short))
-      | inr short ↦ elim (element_decided all) [
-        | inl first ↦ elim (last_factor_decided first.1) [
-          | inl last ↦ inl (first.0, last.0, product_of_factors text first.0 last.0 all first.1 short h first.2 last.1)
-          | inr none ↦ inr (no_right text all first.1 first.0 h first.2 none)
-        ]
-        | inr none ↦ inr (no_product text all h none)
-      ]
+      | inl long ↦ (Refused refusal.TooLong, too_long long)
+      | inr short ↦ let answer = answer_exists text in by-answer short answer.0 answer.1
     ]
-
--- A text has an outcome, where the products within the limit have values.
-pub outcome_exists : ((left right : List ℕ) → IsWithinLimit left → IsWithinLimit right → sum left + sum right ≤ 10 → (c : Combination) × IsValueOf (product (element qsym_m left) (element qsym_m right)) c)
-    → (text : List ℕ) → (o : Outcome) × IsOutcome text o
-outcome_exists values [] = (Empty, empty refl refl)
-outcome_exists values (b ∷ text) =
-    elim (product_decided (b ∷ text)) [
-      | inl found ↦ elim (cases_lt 10 (sum found.0 + sum found.1)) [
-        | inl past ↦ (Refused (Degree (sum found.0 + sum found.1) 10), past_limit found.0 found.1 found.2 past refl)
-        | inr within ↦
-            let value = values found.0 found.1 found.2.left_index found.2.right_index within in
-            (Printed (value_text (qsym_m ∷ []) value.0.terms), printed found.0 found.1 value.0 found.2 within value.1 refl)
-      ]
-      | inr none ↦ (Refused NotBuilt, not_built (λ e. cc) none refl)
-    ]
+  where
+    by-answer : length text ≤ 65536 → (r : Result Statement GrammarFault) → IsAnswer text r → (outcome : Outcome) × IsOutcome text outcome
+    by-answer short (Ok st) h = let done = outcome_of_exists st in (done.0, read short h done.1)
+    by-answer short (Err f) h = (Refused (refusal.Grammar f), refused short h)
 
 -- The texts of statements have outcomes.
-outcomes_exist : ((left right : List ℕ) → IsWithinLimit left → IsWithinLimit right → sum left + sum right ≤ 10 → (c : Combination) × IsValueOf (product (element qsym_m left) (element qsym_m right)) c)
-    → (parts : List (List ℕ)) → (os : List Outcome) × AreOutcomes parts os
-outcomes_exist values [] = ([], refl)
-outcomes_exist values (part ∷ []) = (unfinished (trimmed part), refl)
-outcomes_exist values (part ∷ another ∷ parts) =
-    let first = outcome_exists values (trimmed part) in
-    let rest = outcomes_exist values (another ∷ parts) in
+outcomes_exist : (parts : List (List ℕ)) → (os : List Outcome) × AreOutcomes parts os
+outcomes_exist [] = ([], refl)
+outcomes_exist (part ∷ []) = (unfinished (trimmed part), refl)
+outcomes_exist (part ∷ another ∷ parts) =
+    let first = outcome_exists (trimmed part) in
+    let rest = outcomes_exist (another ∷ parts) in
     (first.0 ∷ rest.0, (first.0, rest.0, refl, first.1, rest.1))
 
--- Every list of bytes has outcomes, where the products within the limit have values.
-pub script_exists : ((left right : List ℕ) → IsWithinLimit left → IsWithinLimit right → sum left + sum right ≤ 10 → (c : Combination) × IsValueOf (product (element qsym_m left) (element qsym_m right)) c)
-    → (bytes : List ℕ) → (os : List Outcome) × IsScript bytes os
-script_exists values bytes = outcomes_exist values (slice_split is_end bytes)
+pub script_exists : (bytes : List ℕ) → (os : List Outcome) × IsScript bytes os
+script_exists bytes = outcomes_exist (slice_split is_end bytes)

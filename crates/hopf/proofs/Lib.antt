@@ -1,9 +1,9 @@
 pub mod Completeness
+pub mod ElementProducts
 pub mod Existence
-pub mod Lexemes
 pub mod OneOutcome
 pub mod OneTranscript
+pub mod Products
 pub mod Runs
 pub mod Sessions
 pub mod Statements
-pub mod Texts

@@ -1,80 +1,59 @@
 -- A text has one outcome.
-use Rattle.std.proofs.Common.{◌≡◌, ℕ, ◌+◌, ◌≤◌, List, [], ◌∷◌, refl, sym, ◌∙◌, ap, subst, arith}
-use Rattle.std.specs.List.{sum}
-use Rattle.linear_combos.proofs.ClassBases.{monomial_class}
-use Rattle.linear_combos.proofs.OnePoint.{at_one_point}
-use Rattle.linear_combos.specs.Answers.{IsAnswer}
-use Rattle.linear_combos.specs.Combos.{Combination}
-use Rattle.linear_combos.specs.Readings.{Reading, AgreeAt, leaf, denominator, element, product}
-use Rattle.linear_combos.specs.Rows.{qsym_m}
-use Rattle.linear_combos.proofs.Uniqueness.{unique_reading}
+use Rattle.std.proofs.Common.{◌≡◌, ℕ, List, Ok, Err, Result, refl, sym, ◌∙◌, ap, subst, arith}
+use Rattle.hopf_laws.specs.Values.{Expansion}
+use Rattle.session_lang.specs.declared.expression.Statement.{Statement}
+use Rattle.session_lang.specs.declared.expression.Statement.TheVariants as s
+use Rattle.session_lang.specs.declared.fault.GrammarFault.{GrammarFault}
+use Rattle.session_lang.specs.Parses.{IsAnswer}
+use Rattle.session_lang.proofs.OneAnswer.{answer_once}
+use Rattle.hopf.specs.declared.refusal.StatementRefusal.TheVariants as refusal
 use Rattle.hopf.specs.declared.statement.Outcome.{Outcome}
-use Rattle.hopf.specs.declared.statement.Outcome.TheVariants.{Printed, Refused}
-use Rattle.hopf.specs.declared.statement.StatementRefusal.TheVariants.{Degree}
-use Rattle.hopf.specs.Outcomes.{IsOutcome, empty, printed, past_limit, not_built}
-use Rattle.hopf.specs.declared.product.Lexeme.TheVariants as lexeme
-use Rattle.session_lang.specs.declared.token.Kind.TheVariants as kind
-use Rattle.session_lang.specs.declared.token.Token.{Token}
-use Rattle.hopf.specs.Products.{IsProduct, lexemes_of, product_lexemes}
-use Rattle.session_lang.specs.Tokens.{AreTokens, at_end, token}
-use Rattle.hopf.specs.Text.{value_text}
-use Rattle.hopf.specs.Values.{IsValueOf}
-use Rattle.hopf.proofs.Lexemes.{product_once}
+use Rattle.hopf.specs.declared.statement.Outcome.TheVariants.{Refused}
+use Rattle.hopf.specs.Outcomes.{element_value, IsProduct, IsEvaluated, IsOutcomeOf, empty, product, not_built, IsOutcome, too_long, refused, read}
+use Rattle.hopf.proofs.ElementProducts.{evaluated_once}
+use Rattle.hopf.proofs.Products.{Elements, elements, same_elements}
 
--- the answer of a rule is the value that reads so
-pub value_from_answer : (n : ℕ) (r : Reading) (c : Combination) → IsAnswer (qsym_m ∷ []) n r c → IsValueOf r c
-value_from_answer n r c h = record {
-  value = record { canonical = h.canonical; rank = h.rank; whole = h.whole; indices = h.indices };
-  reads = λ p. rw h.whole (h.reads (p ∷ []) refl);
-}
+-- the empty statement prints no product
+no-product : (st : Statement) (a b : Expansion) → st ≡ s.Empty → IsProduct st a b → ⊥
+no-product st a b is h = let k = elements h in let other = k.is in absurd (cc)
 
--- values that read alike are equal
-pub value_once : (r : Reading) (c d : Combination) → 1 ≤ denominator r → IsValueOf r c → IsValueOf r d → c ≡ d
-value_once r c d positive h k =
-    unique_reading (qsym_m ∷ []) r c d (monomial_class, tt) h.value.canonical k.value.canonical h.value.rank k.value.rank positive h.value.indices k.value.indices
-    (at_one_point (AgreeAt (leaf (qsym_m ∷ []) c.den c.terms) r) h.reads)
-    (at_one_point (AgreeAt (leaf (qsym_m ∷ []) d.den d.terms) r) k.reads)
+-- a statement prints one product at most
+product-outcomes : (st : Statement) (a b c d : Expansion) (o p : Outcome) (k : Elements st a b) (l : Elements st c d) → IsEvaluated a b o → IsEvaluated c d p → o ≡ p
+product-outcomes st a b c d o p k l h i =
+    let same = same_elements k l in
+    let here : IsEvaluated (element_value k.p k.left) (element_value k.q k.right) o = subst (λ (x : Expansion). IsEvaluated x (element_value k.q k.right) o) k.first (subst (λ (y : Expansion). IsEvaluated a y o) k.second h) in
+    let there : IsEvaluated (element_value k.p k.left) (element_value k.q k.right) p =
+    subst (λ (x : Expansion). IsEvaluated x (element_value k.q k.right) p) (sym same.0 ∙ k.first) (subst (λ (y : Expansion). IsEvaluated c y p) (sym same.1 ∙ k.second) i) in
+    evaluated_once k.p k.q k.left k.right o p here there
 
--- the factors of a text are determined, and so is the text of their product
-same_print : (text l r l' r' : List ℕ) (c d : Combination) → IsProduct text l r → IsProduct text l' r'
-    → IsValueOf (product (element qsym_m l) (element qsym_m r)) c → IsValueOf (product (element qsym_m l') (element qsym_m r')) d → c.terms ≡ d.terms
-same_print text l r l' r' c d p q h k =
-    let (left, right) = product_once text l r l' r' p q in
-    let k' : IsValueOf (product (element qsym_m l) (element qsym_m r)) d =
-    subst (λ (x : List ℕ). IsValueOf (product (element qsym_m x) (element qsym_m r)) d) (sym left) (subst (λ (x : List ℕ). IsValueOf (product (element qsym_m l') (element qsym_m x)) d) (sym right) k) in
-    ap (λ v. v.terms) (value_once (product (element qsym_m l) (element qsym_m r)) c d (omega arith) h k')
+outcome_of_once : (st : Statement) (o p : Outcome) → IsOutcomeOf st o → IsOutcomeOf st p → o ≡ p
+outcome_of_once st o p (empty t) (empty u) = refl
+outcome_of_once st o p (empty t) (product {a = a} {b = b} k i) = absurd (no-product st a b t k)
+outcome_of_once st o p (empty t) (not_built some none) = absurd (some t)
+outcome_of_once st o p (product {a = a} {b = b} h i) (empty u) = absurd (no-product st a b u h)
+outcome_of_once st o p (product {a = a} {b = b} h i) (product {a = c} {b = d} k j) = product-outcomes st a b c d o p (elements h) (elements k) i j
+outcome_of_once st o p (product {a = a} {b = b} h i) (not_built some none) = absurd (none a b h)
+outcome_of_once st o p (not_built some none) (empty u) = absurd (some u)
+outcome_of_once st o p (not_built some none) (product {a = a} {b = b} k i) = absurd (none a b k)
+outcome_of_once st o p (not_built some none) (not_built some' none') = refl
 
-same_sizes : (text l r l' r' : List ℕ) → IsProduct text l r → IsProduct text l' r' → sum l + sum r ≡ sum l' + sum r'
-same_sizes text l r l' r' p q = let (left, right) = product_once text l r l' r' p q in ap (λ x. sum x + sum r) left ∙ ap (λ x. sum l' + sum x) right
+same-fault : (text : List ℕ) (f g : GrammarFault) → IsAnswer text (Err f) → IsAnswer text (Err g) → f ≡ g
+same-fault text f g h k = let same : ◌≡◌ {A = Result Statement GrammarFault} (Err f) (Err g) = answer_once text (Err f) (Err g) h k in cc
 
--- the empty text spells no product
-nil_tokens : (p : ℕ) (ts : List Token) → AreTokens p [] ts → ts ≡ token kind.End p 0 ∷ []
-nil_tokens p ts at_end = refl
+same-statement : (text : List ℕ) (st su : Statement) → IsAnswer text (Ok st) → IsAnswer text (Ok su) → st ≡ su
+same-statement text st su h k = let same : ◌≡◌ {A = Result Statement GrammarFault} (Ok st) (Ok su) = answer_once text (Ok st) (Ok su) h k in cc
 
-no_lexemes : (text : List ℕ) (ts : List Token) (l r : List ℕ) → ts ≡ token kind.End 1 0 ∷ [] → lexemes_of text ts ≡ product_lexemes l r → ⊥
-no_lexemes text ts l r is e =
-    let alone : lexeme.End ∷ [] ≡ product_lexemes l r = sym (ap (lexemes_of text) is) ∙ e in
-    absurd (cc)
+read-or-refused : (text : List ℕ) (st : Statement) (f : GrammarFault) → IsAnswer text (Ok st) → IsAnswer text (Err f) → ⊥
+read-or-refused text st f h k = let same : ◌≡◌ {A = Result Statement GrammarFault} (Ok st) (Err f) = answer_once text (Ok st) (Err f) h k in absurd (cc)
 
-nothing_is_no_product : (text l r : List ℕ) → text ≡ [] → IsProduct text l r → ⊥
-nothing_is_no_product text l r is p =
-    let tokens = nil_tokens 1 p.tokens (subst (λ (x : List ℕ). AreTokens 1 x p.tokens) is p.are_tokens) in
-    no_lexemes text p.tokens l r tokens p.spelled
-
-pub outcome_once : (text : List ℕ) (o o' : Outcome) → IsOutcome text o → IsOutcome text o' → o ≡ o'
-outcome_once text o o' (empty t e) (empty u f) = e ∙ sym f
-outcome_once text o o' (empty t e) (printed l r c p small v f) = absurd (nothing_is_no_product text l r t p)
-outcome_once text o o' (empty t e) (past_limit l r p large f) = absurd (nothing_is_no_product text l r t p)
-outcome_once text o o' (empty t e) (not_built some none f) = absurd (some t)
-outcome_once text o o' (printed l r c p small v e) (empty t f) = absurd (nothing_is_no_product text l r t p)
-outcome_once text o o' (printed l r c p small v e) (printed l' r' d q small' w f) = e ∙ ap (λ ts. Printed (value_text (qsym_m ∷ []) ts)) (same_print text l r l' r' c d p q v w) ∙ sym f
-outcome_once text o o' (printed l r c p small v e) (past_limit l' r' q large f) = absurd (omega (arith, same_sizes text l r l' r' p q))
-outcome_once text o o' (printed l r c p small v e) (not_built some none f) = absurd (none l r p)
-outcome_once text o o' (past_limit l r p large e) (empty t f) = absurd (nothing_is_no_product text l r t p)
-outcome_once text o o' (past_limit l r p large e) (printed l' r' d q small' w f) = absurd (omega (arith, same_sizes text l r l' r' p q))
-outcome_once text o o' (past_limit l r p large e) (past_limit l' r' q large' f) = e ∙ ap (λ n. Refused (Degree n 10)) (same_sizes text l r l' r' p q) ∙ sym f
-outcome_once text o o' (past_limit l r p large e) (not_built some none f) = absurd (none l r p)
-outcome_once text o o' (not_built some none e) (empty t f) = absurd (some t)
-outcome_once text o o' (not_built some none e) (printed l r c p small v f) = absurd (none l r p)
-outcome_once text o o' (not_built some none e) (past_limit l r p large f) = absurd (none l r p)
-outcome_once text o o' (not_built some none e) (not_built some' none' f) = e ∙ sym f
+pub outcome_once : (text : List ℕ) (o p : Outcome) → IsOutcome text o → IsOutcome text p → o ≡ p
+outcome_once text o p (too_long long) (too_long long') = refl
+outcome_once text o p (too_long long) (refused short k) = absurd (omega (arith, long, short))
+outcome_once text o p (too_long long) (read short k j) = absurd (omega (arith, long, short))
+outcome_once text o p (refused short h) (too_long long) = absurd (omega (arith, long, short))
+outcome_once text o p (refused {f = f} short h) (refused {f = g} short' k) = ap (λ (x : GrammarFault). Refused (refusal.Grammar x)) (same-fault text f g h k)
+outcome_once text o p (refused {f = f} short h) (read {st = st} short' k j) = absurd (read-or-refused text st f k h)
+outcome_once text o p (read short h i) (too_long long) = absurd (omega (arith, long, short))
+outcome_once text o p (read {st = st} short h i) (refused {f = f} short' k) = absurd (read-or-refused text st f h k)
+outcome_once text o p (read {st = st} short h i) (read {st = su} short' k j) =
+    outcome_of_once st o p i (subst (λ (z : Statement). IsOutcomeOf z p) (sym (same-statement text st su h k)) j)

@@ -1,27 +1,10 @@
 -- Every list of bytes has one transcript.
-use Rattle.std.proofs.Common.{◌≡◌, ℕ, ◌+◌, ◌≤◌, List, [], ◌∷◌, Bool, true, false, MatchBool, sym, ◌∙◌, arith}
-use Rattle.std.specs.List.{sum, slice_split}
-use Rattle.linear_combos.specs.Combos.{Combination}
-use Rattle.linear_combos.specs.Readings.{element, product}
-use Rattle.linear_combos.specs.Rows.{qsym_m}
-use Rattle.compositions.proofs.Existence.{product_exists}
+use Rattle.std.proofs.Common.{◌≡◌, ℕ, List, [], ◌∷◌, Bool, true, false, MatchBool, sym, ◌∙◌}
+use Rattle.std.specs.List.{slice_split}
 use Rattle.hopf.specs.declared.statement.Outcome.{Outcome}
 use Rattle.hopf.specs.Outcomes.{IsOutcome}
-use Rattle.hopf.specs.Products.{IsWithinLimit}
 use Rattle.hopf.specs.Transcript.{AreOutcomes, IsScript, is_end, is_none, trimmed, unfinished}
-use Rattle.hopf.specs.Values.{IsValueOf}
-use Rattle.hopf.proofs.Existence.{script_exists}
-use Rattle.hopf.proofs.OneOutcome.{outcome_once, value_from_answer}
-
--- the value of a product within the limit
-value_exists : (left right : List ℕ) → IsWithinLimit left → IsWithinLimit right → sum left + sum right ≤ 10
-    → (c : Combination) × IsValueOf (product (element qsym_m left) (element qsym_m right)) c
-value_exists left right l r small =
-    let (c, answer) = product_exists left right l.composition r.composition (omega arith) in
-    (c, value_from_answer _ _ c answer)
-
-pub transcript_exists : (bytes : List ℕ) → (os : List Outcome) × IsScript bytes os
-transcript_exists bytes = script_exists value_exists bytes
+use Rattle.hopf.proofs.OneOutcome.{outcome_once}
 
 -- the outcomes from a part on, by whether it is the last
 abbrev pub FromPart : List ℕ → List (List ℕ) → Bool → List Outcome → Type 0

@@ -12,12 +12,11 @@ use Rattle.hopf.specs.declared.session.SessionFault.{SessionFault}
 use Rattle.hopf.specs.Outcomes.{line_of, is_refusal}
 use Rattle.hopf.proofs.OneOutcome.{outcome_once}
 use Rattle.session_lang.specs.Tokens.{is_blank}
-use Rattle.hopf.specs.Transcript.{is_end, IsScript, lines, some_refused, unfinished, IsText}
+use Rattle.hopf.specs.Transcript.{is_end, IsScript, lines, some_refused, unfinished, unfinished_refusal, IsText}
 use Rattle.hopf.specs.Sessions.{Script, Same, Continues, Advances, Stops, WritesIfSteady, Ends, EndStops, EndIfSteady, Runs, StopsWhole, last_of}
 use Rattle.std.proofs.lemmas.List.{nil_from_length}
 use Rattle.std.proofs.lemmas.Bool.{eqb-true}
 use Rattle.hopf.specs.declared.statement.Outcome.TheVariants.{Refused}
-use Rattle.hopf.specs.declared.statement.StatementRefusal.TheVariants.{NotBuilt}
 use Rattle.hopf.proofs.Statements.{script_end, from_script_end, script_blank, from_script_blank, script_last, from_script_last}
 
 same_then : (a b c : Session) (w v : List ℕ) (xs ys zs : List Outcome) → Same a b w xs ys → Same b c v ys zs → Same a c (w ++ v) xs zs
@@ -187,15 +186,15 @@ from_script_rest s os script = from_script_last s.pending os s.text (rw append-n
 pub no_last : (s : Session) → (length s.pending == 0) ≡ true → last_of s ≡ []
 no_last s h = ap unfinished (nil_from_length s.pending (eqb-true _ _ h))
 
-unfinished_some : (text : List ℕ) → (length text == 0) ≡ false → unfinished text ≡ Refused NotBuilt ∷ []
+unfinished_some : (text : List ℕ) → (length text == 0) ≡ false → unfinished text ≡ Refused (unfinished_refusal text) ∷ []
 unfinished_some [] h = absurd (cc)
 unfinished_some (c ∷ text) h = refl
 
-pub last_some : (s : Session) → (length s.pending == 0) ≡ false → last_of s ≡ Refused NotBuilt ∷ []
+pub last_some : (s : Session) → (length s.pending == 0) ≡ false → last_of s ≡ Refused (unfinished_refusal s.pending) ∷ []
 last_some s h = unfinished_some s.pending h
 
-pub last_line : (s : Session) → (length s.pending == 0) ≡ false → lines s.statements (last_of s) ≡ line_of (s.statements + 1) (Refused NotBuilt)
-last_line s h = ap (lines s.statements) (last_some s h) ∙ append-nil (line_of (s.statements + 1) (Refused NotBuilt))
+pub last_line : (s : Session) → (length s.pending == 0) ≡ false → lines s.statements (last_of s) ≡ line_of (s.statements + 1) (Refused (unfinished_refusal s.pending))
+last_line s h = ap (lines s.statements) (last_some s h) ∙ append-nil (line_of (s.statements + 1) (Refused (unfinished_refusal s.pending)))
 
 pub or_true : (b : Bool) → (b || true) ≡ true
 or_true true = refl

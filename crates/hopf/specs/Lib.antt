@@ -1,11 +1,8 @@
 pub mod Laws
 pub mod Outcomes
-pub mod ProductSteps
-pub mod Products
+pub mod Refusals
 pub mod Runs
 pub mod Sessions
 pub mod Statuses
-pub mod Text
 pub mod Transcript
-pub mod Values
 pub mod Words

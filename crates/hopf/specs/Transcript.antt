@@ -1,9 +1,10 @@
 -- The statements of a list of bytes, and the lines that they print.
-use Rattle.std.specs.Prelude.{◌≡◌, ℕ, ◌+◌, ◌==◌, List, [], ◌∷◌, ◌++◌, Bool, true, false, if◌then◌else◌, All, MatchBool}
+use Rattle.std.specs.Prelude.{◌≡◌, ℕ, ◌+◌, ◌==◌, List, [], ◌∷◌, ◌++◌, Bool, true, false, if◌then◌else◌, All, MatchBool, nat_lt, length}
 use Rattle.std.specs.List.{slice_split, list_any}
 use Rattle.hopf.specs.declared.statement.Outcome.{Outcome}
 use Rattle.hopf.specs.declared.statement.Outcome.TheVariants.{Refused}
-use Rattle.hopf.specs.declared.statement.StatementRefusal.TheVariants.{NotBuilt}
+use Rattle.hopf.specs.declared.refusal.StatementRefusal.{StatementRefusal}
+use Rattle.hopf.specs.declared.refusal.StatementRefusal.TheVariants.{TooLong, Unfinished}
 use Rattle.hopf.specs.Outcomes.{IsOutcome, line_of, is_refusal}
 use Rattle.session_lang.specs.Tokens.{is_blank}
 
@@ -16,10 +17,14 @@ abbrev pub trimmed : List ℕ → List ℕ
 trimmed [] = []
 trimmed (c ∷ text) = if is_blank c then trimmed text else c ∷ text
 
--- what follows the last `;` is a statement where it holds a byte that is no blank; no form without its `;` is built
+-- the refusal of a text whose `;` did not come
+abbrev pub unfinished_refusal : List ℕ → StatementRefusal
+unfinished_refusal text = if nat_lt 65536 (length text) then TooLong else Unfinished
+
+-- what follows the last `;` is a statement where it holds a byte that is no blank
 abbrev pub unfinished : List ℕ → List Outcome
 unfinished [] = []
-unfinished (c ∷ text) = Refused NotBuilt ∷ []
+unfinished (c ∷ text) = Refused (unfinished_refusal (c ∷ text)) ∷ []
 
 -- no part is left
 abbrev pub is_none : List (List ℕ) → Bool

@@ -2,9 +2,8 @@
 #![tactic(auto)]
 
 mod laws;
-mod printing;
-mod product;
 mod reading;
+mod refusal;
 mod run;
 mod session;
 mod statement;

@@ -3,7 +3,7 @@ ghost use Rattle.std.specs.Prelude.{◌≡◌, ◌+◌, ◌^◌, ◌<◌, ◌≤
 ghost use Rattle.hopf.specs.Transcript.{IsText, lines, some_refused};
 ghost use Rattle.hopf.specs.declared.statement.Outcome.{Outcome};
 
-use crate::statement::{Outcome, StatementRefusal, evaluate, line_of};
+use crate::statement::{Outcome, evaluate, line_of, refusal_of_unfinished};
 use hopf_io::{Bytes, Failed, Sink, send_all};
 use hopf_num::OutOfMemory;
 use session_lang::is_blank;
@@ -144,7 +144,7 @@ impl Session {
         }
         self.statements += 1;
         self.refused = true;
-        let outcome = Outcome::Refused(StatementRefusal::NotBuilt);
+        let outcome = Outcome::Refused(refusal_of_unfinished(self.pending.as_slice()));
         let text = line_of(self.alloc, self.statements, &outcome)?;
         send_all(out, text.as_slice())?;
         Ok(())

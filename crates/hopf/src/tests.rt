@@ -51,10 +51,16 @@ fn run_over(
 
 const NOT_BUILT: &[u8] = b"error 20 in statement 1: not built yet\n";
 
+const NO_SEMICOLON: &[u8] = b"error 2 in statement 1: statement has no semicolon\n";
+
+const TOO_LONG: &[u8] = b"error 1 in statement 1: statement is longer than 65536 bytes\n";
+
+const BAD_INDEX: &[u8] = b"error 7 in statement 1: bad index at byte 7\n";
+
 /// Worked sessions: the input, the status and the output.
 #[test]
 fn worked_sessions(rt: HostRuntime) -> Result<(), Fail> {
-    let cases: [(&[u8], Status, &[u8]); 18] = [
+    let cases: [(&[u8], Status, &[u8]); 20] = [
         (
             b"QSym.M[1]*QSym.M[1];",
             Status::Ok,
@@ -77,29 +83,51 @@ fn worked_sessions(rt: HostRuntime) -> Result<(), Fail> {
             Status::Refused,
             b"error 16 in statement 1: degree 20 is past 10\n",
         ),
-        (b"QSym.M[11]*QSym.M[];", Status::Refused, NOT_BUILT),
-        (b"QSym.M[2,0]*QSym.M[1];", Status::Refused, NOT_BUILT),
+        (b"QSym.M[11]*QSym.M[];", Status::Refused, BAD_INDEX),
+        (b"QSym.M[2,0]*QSym.M[1];", Status::Refused, BAD_INDEX),
         (b"QSym.M[1] + QSym.M[1];", Status::Refused, NOT_BUILT),
-        (b"QSym.M[1]*QSym.M[1]", Status::Refused, NOT_BUILT),
+        (b"QSym.M[1]*QSym.M[1]", Status::Refused, NO_SEMICOLON),
         (
             b"QSym.M[1]*QSym.M[1]*QSym.M[1];",
             Status::Refused,
             NOT_BUILT,
         ),
-        (b"QSym .M[1]*QSym.M[1];", Status::Refused, NOT_BUILT),
-        (b"QSym.Mx[1]*QSym.M[1];", Status::Refused, NOT_BUILT),
+        (
+            b"QSym .M[1]*QSym.M[1];",
+            Status::Refused,
+            b"error 4 in statement 1: syntax error at byte 6\n",
+        ),
+        (
+            b"QSym.Mx[1]*QSym.M[1];",
+            Status::Refused,
+            b"error 4 in statement 1: syntax error at byte 1\n",
+        ),
         (
             b" \tQSym.M [ 01 ]\r\n* QSym.M[0000000002];",
             Status::Ok,
             b"QSym.M[1,2] + QSym.M[2,1] + QSym.M[3]\n",
         ),
-        (b"QSym.M[1 1]*QSym.M[1];", Status::Refused, NOT_BUILT),
+        (
+            b"QSym.M[1 1]*QSym.M[1];",
+            Status::Refused,
+            b"error 4 in statement 1: syntax error at byte 10\n",
+        ),
+        (
+            b"1 := 2; in := 3; QSym.M[1]/QSym.M[1]; coproduct(QSym.M[1]);",
+            Status::Refused,
+            b"error 4 in statement 1: syntax error at byte 3\nerror 6 in statement 2: reserved name in\nerror 20 in statement 3: not built yet\nerror 20 in statement 4: not built yet\n",
+        ),
+        (
+            b"170141183460469231731687303715884105728;",
+            Status::Refused,
+            b"error 5 in statement 1: number at byte 1 is too large\n",
+        ),
         (b"", Status::Ok, b""),
         (b";; ;\n", Status::Ok, b""),
         (
             b"x;QSym.M[1]*QSym.M[];;y",
             Status::Refused,
-            b"error 20 in statement 1: not built yet\nQSym.M[1]\nerror 20 in statement 4: not built yet\n",
+            b"error 20 in statement 1: not built yet\nQSym.M[1]\nerror 2 in statement 4: statement has no semicolon\n",
         ),
     ];
     for (input, status, output) in cases {
@@ -183,7 +211,7 @@ fn pieces_of_each_size(rt: HostRuntime) -> Result<(), Fail> {
     Ok(())
 }
 
-/// Each single byte: a blank and `;` print nothing, and any other one is not built.
+/// Each single byte: a blank and `;` print nothing, and any other one has no semicolon.
 #[test]
 fn single_bytes(rt: HostRuntime) -> Result<(), Fail> {
     for byte in 0..=255u8 {
@@ -193,7 +221,7 @@ fn single_bytes(rt: HostRuntime) -> Result<(), Fail> {
             assert_eq!(rt; answer.1.as_slice(), b"".as_slice());
         } else {
             assert_eq!(rt; answer.0, Status::Refused);
-            assert_eq!(rt; answer.1.as_slice(), NOT_BUILT);
+            assert_eq!(rt; answer.1.as_slice(), NO_SEMICOLON);
         }
     }
     Ok(())
@@ -217,7 +245,7 @@ fn limits(rt: HostRuntime) -> Result<(), Fail> {
     let square: &[u8] = b"2*QSym.M[1,1] + QSym.M[2]\n";
     let cases: [(u32, &[u8], Status, &[u8]); 4] = [
         (15, b";", Status::Ok, square),
-        (15, b" ;", Status::Refused, NOT_BUILT),
+        (15, b" ;", Status::Refused, TOO_LONG),
         (16384, b"", Status::Ok, b""),
         (16384, b" ", Status::InputLimit, b""),
     ];

@@ -4,6 +4,8 @@ pub mod FineSteps
 pub mod LexemesOfTokens
 pub mod ListSteps
 pub mod Numbers
+pub mod OneAnswer
+pub mod OneText
 pub mod ReachedStates
 pub mod Spellings
 pub mod StatementSteps

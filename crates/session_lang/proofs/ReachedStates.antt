@@ -32,11 +32,12 @@ reached-with front q t new (Some other) is r all h =
       fine = subst (λ (z : State). IsFine z.mode) same all;
     }
 
-reached-step : (front : List Lexeme) (q : State) (t : Lexeme) (new : State) → step q t ≡ Some new → IsReached front q → IsReached (front ++ t ∷ []) new
+-- One more lexeme is read, and the parser is in the next state.
+pub reached-step : (front : List Lexeme) (q : State) (t : Lexeme) (new : State) → step q t ≡ Some new → IsReached front q → IsReached (front ++ t ∷ []) new
 reached-step front q t new is r = reached-with front q t new (step q t) is r (step-fine q t) (step-exact q t r.fine)
 
 -- Some statement begins with the lexemes that were read.
-reached-begins : (front : List Lexeme) (q : State) → IsReached front q → Begins front
+pub reached-begins : (front : List Lexeme) (q : State) → IsReached front q → Begins front
 reached-begins front q r = let more = alive q.base q.mode r.fine q.below q.level in (more.0, more.1, (r.reads more.0 more.1).1 more.2)
 
 dead-with : (front : List Lexeme) (q : State) (t : Lexeme) (o : Option State) → o ≡ None → IsReached front q → ReadsOn (λ ts out. Reads q (t ∷ ts) out) o → Begins (front ++ t ∷ []) → ⊥
@@ -44,10 +45,11 @@ dead-with front q t None is r h (more, x, w) = h more x ((r.reads (t ∷ more) x
 dead-with front q t (Some other) is r h w = absurd (cc)
 
 -- No statement begins with them and with the lexeme at which the parser stops.
-reached-dead : (front : List Lexeme) (q : State) (t : Lexeme) → step q t ≡ None → IsReached front q → Begins (front ++ t ∷ []) → ⊥
+pub reached-dead : (front : List Lexeme) (q : State) (t : Lexeme) → step q t ≡ None → IsReached front q → Begins (front ++ t ∷ []) → ⊥
 reached-dead front q t is r = dead-with front q t (step q t) is r (step-exact q t r.fine)
 
-done-with : (ls : List Lexeme) (q : State) (x : Statement) (o : Option Statement) → o ≡ Some x → IsReached ls q → EndsIn (λ out. Reads q [] out) o → IsOnlyStatement ls x
+-- Where the parser ends with a statement, the lexemes are this one alone.
+pub done-with : (ls : List Lexeme) (q : State) (x : Statement) (o : Option Statement) → o ≡ Some x → IsReached ls q → EndsIn (λ out. Reads q [] out) o → IsOnlyStatement ls x
 done-with ls q x None is r h = absurd (cc)
 done-with ls q x (Some z) is r h =
     let same : z ≡ x = cc in
@@ -56,7 +58,8 @@ done-with ls q x (Some z) is r h =
       only = λ y w. sym same ∙ h.1 y ((r.reads [] y).0 (subst (λ (us : List Lexeme). IsStatement us y) (sym (append-nil ls)) w));
     }
 
-short-with : (ls : List Lexeme) (q : State) (o : Option Statement) → o ≡ None → IsReached ls q → EndsIn (λ out. Reads q [] out) o → (y : Statement) → IsStatement ls y → ⊥
+-- Where the parser ends with none, they are no statement.
+pub short-with : (ls : List Lexeme) (q : State) (o : Option Statement) → o ≡ None → IsReached ls q → EndsIn (λ out. Reads q [] out) o → (y : Statement) → IsStatement ls y → ⊥
 short-with ls q None is r h = λ y w. h y ((r.reads [] y).0 (subst (λ (us : List Lexeme). IsStatement us y) (sym (append-nil ls)) w))
 short-with ls q (Some x) is r h = absurd (cc)
 

@@ -1,5 +1,6 @@
 pub mod Faults
 pub mod Grammar
+pub mod Laws
 pub mod Lexemes
 pub mod ListStates
 pub mod ParserSteps

@@ -99,12 +99,16 @@ abbrev pub Answers : List ℕ → List Token → Result Statement GrammarFault �
 Answers text tokens (Ok s) = IsSound (lexemes_of text tokens) s
 Answers text tokens (Err f) = IsRefused text tokens f
 
--- the answer on a text
+-- the answer on a text, where memory suffices: its tokens are these alone, and they decide
+pub record IsAnswer (text : List ℕ) (answer : Result Statement GrammarFault) : Type 0 where
+  pub tokens : List Token
+  pub are : AreTokens 1 text tokens
+  pub answers : Answers text tokens answer
+
+-- the answer on a text; memory may run out at any text
 pub data Parses (text : List ℕ) : Result Statement GrammarFault → Type 0 where
-  -- memory may run out at any text
   no_memory : Parses text (Err fault.Memory)
-  -- its tokens are these, and they decide
-  answered : {tokens : List Token} {answer : Result Statement GrammarFault} → AreTokens 1 text tokens → Answers text tokens answer → Parses text answer
+  answered : {answer : Result Statement GrammarFault} → IsAnswer text answer → Parses text answer
 
 -- For the private parts of the parser.
 

@@ -4,6 +4,7 @@
 mod expression;
 mod fault;
 mod index;
+mod laws;
 mod level;
 mod lexeme;
 mod parser;
@@ -19,6 +20,7 @@ mod tokenizer;
 pub use expression::{BasisList, Expr, Factor, Linear, Name, Signed, Statement};
 pub use fault::GrammarFault;
 pub use index::{element_of, index_in};
+pub use laws::{parse_law, text_law};
 pub use lexeme::{Lexeme, NUMBER_LIMIT, lexeme_of};
 pub use printing::{print_index, print_value};
 pub use reading::parse;

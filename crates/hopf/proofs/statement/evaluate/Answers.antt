@@ -1,26 +1,26 @@
-use Rattle.std.proofs.Common.{◌≡◌, ◌+◌, arith, ap}
-use Rattle.std.specs.List.{sum}
-use Rattle.std.proofs.lemmas.Option.{MatchOption-at_some}
-use Rattle.hopf.specs.declared.statement.Outcome.TheVariants.{Printed, Refused}
-use Rattle.hopf.specs.declared.statement.StatementRefusal.TheVariants.{Degree}
-use Rattle.hopf.specs.Outcomes.{printed, past_limit}
-use Rattle.hopf.specs.Products.{IsProduct}
-use Rattle.hopf.proofs.OneOutcome.{value_from_answer}
+use Rattle.std.proofs.Common.{◌≡◌, ◌≢◌, arith, subst, sym}
+use Rattle.std.proofs.lemmas.Result.{IfOk-weaker}
+use Rattle.session_lang.specs.declared.fault.GrammarFault.TheVariants as fault
+use Rattle.hopf.specs.declared.statement.Outcome.{Outcome}
+use Rattle.hopf.specs.declared.statement.Outcome.TheVariants.{Refused}
+use Rattle.hopf.specs.declared.refusal.StatementRefusal.TheVariants as refusal
+use Rattle.hopf.specs.Outcomes.{too_long, refused, read, IsOutcome, IsOutcomeOf}
+use Rattle.hopf.proofs.Products.{answer-of}
 use Rattle.hopf.proofs.statement.evaluate.Goals as goal
 
-pub returns-then-degree-gt-DEGREE_LIMIT : goal.returns-then-degree-gt-DEGREE_LIMIT
-returns-then-degree-gt-DEGREE_LIMIT c =
-    let left = c.in-Some.product.left in
-    let right = c.in-Some.product.right in
-    let is : IsProduct c.args.text.now left right = MatchOption-at_some _ _ _ c.in-Some.is c.in_ok-product.ensures in
-    let size : c.size.result + c.size-2.result ≡ sum left + sum right = omega (arith, c.size.ensures.value, c.size-2.ensures.value) in
-    past_limit left right is (omega (arith, size)) (ap (λ n. Refused (Degree n 10)) size)
+pub returns-then-text-gt-TEXT_LIMIT : goal.returns-then-text-gt-TEXT_LIMIT
+returns-then-text-gt-TEXT_LIMIT c = too_long (omega (arith, c.if-text-gt-TEXT_LIMIT.true))
 
-pub returns : goal.returns
-returns c =
-    let left = c.in-Some.product.left in
-    let right = c.in-Some.product.right in
-    let is : IsProduct c.args.text.now left right = MatchOption-at_some _ _ _ c.in-Some.is c.in_ok-product.ensures in
-    let size : c.size.result + c.size-2.result ≡ sum left + sum right = omega (arith, c.size.ensures.value, c.size-2.ensures.value) in
-    printed left right c.in_ok-value.value is (omega (arith, size)) (value_from_answer _ _ _ c.in_ok-value.ensures)
-    (ap Printed (rw c.new-line.ensures at c.in_ok-print_value.ensures))
+pub returns-in-Ok : goal.returns-in-Ok
+returns-in-Ok c =
+    IfOk-weaker c.outcome_of.result (IsOutcomeOf c.in-Ok.statement) (IsOutcome c.args.text.now)
+    (λ o is. read (omega (arith, c.if-text-gt-TEXT_LIMIT.false)) (answer-of c.in-Ok.ensures (λ e. cc)) is)
+    c.outcome_of.ensures
+
+pub returns-in-Err : goal.returns-in-Err
+returns-in-Err c =
+    IfOk-weaker c.refused.result (λ (o : Outcome). (c.in-Err.fault ≢ fault.Memory) × (o ≡ Refused (refusal.Grammar c.in-Err.fault))) (IsOutcome c.args.text.now)
+    (λ o (other, is).
+    subst (IsOutcome c.args.text.now) (sym is)
+    (refused (omega (arith, c.if-text-gt-TEXT_LIMIT.false)) (answer-of c.in-Err.ensures (λ e. other (let same : c.in-Err.fault ≡ fault.Memory = cc in same)))))
+    c.refused.ensures

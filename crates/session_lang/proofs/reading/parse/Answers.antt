@@ -18,14 +18,21 @@ returns-in_err-statement c = let p = err_from_is_err_and c.from_residual-in_err-
 pub returns-in-Ok : goal.returns-in-Ok
 returns-in-Ok c =
     let same : c.in_ok-lexemes.lexemes.items ≡ lexemes_of c.args.text.now c.in_ok-tokens.tokens = c.in_ok-lexemes.ensures ∙ ap (λ (ts : List Token). lexemes_of c.args.text.now ts) c.as_slice.ensures in
-    answered c.in_ok-tokens.ensures
-    (subst (λ (ls : List Lexeme). Judges ls (Ok c.in-Ok.statement)) same (subst (Judges c.in_ok-lexemes.lexemes.items) c.in-Ok.is c.in_ok-statement.ensures))
+    answered record {
+      tokens = c.in_ok-tokens.tokens;
+      are = c.in_ok-tokens.ensures;
+      answers = subst (λ (ls : List Lexeme). Judges ls (Ok c.in-Ok.statement)) same (subst (Judges c.in_ok-lexemes.lexemes.items) c.in-Ok.is c.in_ok-statement.ensures);
+    }
 
 pub returns : goal.returns
 returns c =
     let same : c.in_ok-lexemes.lexemes.items ≡ lexemes_of c.args.text.now c.in_ok-tokens.tokens = c.in_ok-lexemes.ensures ∙ ap (λ (ts : List Token). lexemes_of c.args.text.now ts) c.as_slice.ensures in
-    answered c.in_ok-tokens.ensures (
-      c.in-Err.flaw,
-      subst (λ (ls : List Lexeme). Judges ls (Err c.in-Err.flaw)) same (subst (Judges c.in_ok-lexemes.lexemes.items) c.in-Err.is c.in_ok-statement.ensures),
-      c.fault_of.ensures ∙ ap (λ (ts : List Token). fault_at ts c.in-Err.flaw) c.as_slice-in-Err.ensures,
-    )
+    answered record {
+      tokens = c.in_ok-tokens.tokens;
+      are = c.in_ok-tokens.ensures;
+      answers = (
+        c.in-Err.flaw,
+        subst (λ (ls : List Lexeme). Judges ls (Err c.in-Err.flaw)) same (subst (Judges c.in_ok-lexemes.lexemes.items) c.in-Err.is c.in_ok-statement.ensures),
+        c.fault_of.ensures ∙ ap (λ (ts : List Token). fault_at ts c.in-Err.flaw) c.as_slice-in-Err.ensures,
+      );
+    }

@@ -1,0 +1,71 @@
+-- The lines of refusals.
+use Rattle.std.specs.Prelude.{ℕ, List, ◌++◌, codes}
+use Rattle.std.specs.Fmt.{decimal}
+use Rattle.hopf_laws.specs.declared.bases.AlgebraId.{AlgebraId}
+use Rattle.hopf_laws.specs.declared.bases.AlgebraId.TheVariants.{Qsym}
+use Rattle.basis_routes.specs.declared.refusal.Refusal.{Refusal}
+use Rattle.basis_routes.specs.declared.refusal.Refusal.TheVariants as value
+use Rattle.session_lang.specs.declared.fault.GrammarFault.{GrammarFault}
+use Rattle.session_lang.specs.declared.fault.GrammarFault.TheVariants as fault
+use Rattle.hopf.specs.declared.refusal.StatementRefusal.{StatementRefusal}
+use Rattle.hopf.specs.declared.refusal.StatementRefusal.TheVariants as refusal
+
+-- the name of an algebra
+abbrev pub name_of_algebra : AlgebraId → List ℕ
+name_of_algebra Qsym = codes "QSym"
+
+-- the numbers of refusals; want of memory is none and has 0
+abbrev pub number_of_fault : GrammarFault → ℕ
+number_of_fault fault.TooDeep = 3
+number_of_fault (fault.Syntax place) = 4
+number_of_fault (fault.Number place) = 5
+number_of_fault (fault.ReservedName word) = 6
+number_of_fault fault.NotBuilt = 20
+number_of_fault (fault.BadIndex place) = 7
+number_of_fault fault.Memory = 0
+
+abbrev pub number_of_value : Refusal → ℕ
+number_of_value value.Rank = 9
+number_of_value value.Component = 10
+number_of_value value.NotScalar = 11
+number_of_value value.ZeroDivisor = 12
+number_of_value (value.Mixed a b) = 13
+number_of_value (value.Degree degree limit) = 16
+number_of_value (value.TooLarge need) = 17
+number_of_value value.Memory = 0
+
+abbrev pub number_of : StatementRefusal → ℕ
+number_of refusal.TooLong = 1
+number_of refusal.Unfinished = 2
+number_of (refusal.Grammar f) = number_of_fault f
+number_of (refusal.Value r) = number_of_value r
+
+-- the texts of refusals
+abbrev pub text_of_fault : GrammarFault → List ℕ
+text_of_fault fault.TooDeep = codes "brackets are nested deeper than 64"
+text_of_fault (fault.Syntax place) = codes "syntax error at byte " ++ decimal place
+text_of_fault (fault.Number place) = codes "number at byte " ++ decimal place ++ codes " is too large"
+text_of_fault (fault.ReservedName word) = codes "reserved name " ++ word
+text_of_fault fault.NotBuilt = codes "not built yet"
+text_of_fault (fault.BadIndex place) = codes "bad index at byte " ++ decimal place
+text_of_fault fault.Memory = codes "out of memory"
+
+abbrev pub text_of_value : Refusal → List ℕ
+text_of_value value.Rank = codes "wrong rank"
+text_of_value value.Component = codes "no such component"
+text_of_value value.NotScalar = codes "divisor is not a scalar"
+text_of_value value.ZeroDivisor = codes "division by zero"
+text_of_value (value.Mixed a b) = codes "no common algebra for " ++ name_of_algebra a ++ codes " and " ++ name_of_algebra b
+text_of_value (value.Degree degree limit) = codes "degree " ++ decimal degree ++ codes " is past " ++ decimal limit
+text_of_value (value.TooLarge need) = codes "coefficient room passed"
+text_of_value value.Memory = codes "out of memory"
+
+abbrev pub text_of : StatementRefusal → List ℕ
+text_of refusal.TooLong = codes "statement is longer than 65536 bytes"
+text_of refusal.Unfinished = codes "statement has no semicolon"
+text_of (refusal.Grammar f) = text_of_fault f
+text_of (refusal.Value r) = text_of_value r
+
+-- the line of a refusal in the statement with this number
+abbrev pub refusal_line : ℕ → StatementRefusal → List ℕ
+refusal_line k r = codes "error " ++ decimal (number_of r) ++ codes " in statement " ++ decimal k ++ codes ": " ++ text_of r ++ codes "\n"
