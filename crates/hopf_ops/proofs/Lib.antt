@@ -1,7 +1,15 @@
+pub mod DecidedChecks
 pub mod Gathering
+pub mod LowestExist
+pub mod MultiplesExist
 pub mod MultiplesOfValues
+pub mod ProductsExist
 pub mod ProductsOfKeys
 pub mod ProductsOfValues
 pub mod Rooms
+pub mod RulesExist
+pub mod ScalarProductsExist
+pub mod SumsExist
 pub mod SumsOfValues
+pub mod TensorsExist
 pub mod TensorsOfValues

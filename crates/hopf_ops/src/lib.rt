@@ -6,12 +6,14 @@
 
 mod common;
 mod gather;
+mod laws;
 mod multiples;
 mod products;
 mod sums;
 #[cfg(test)]
 mod tests;
 
+pub use laws::existence_law;
 pub use multiples::{divide, negate};
 pub use products::{tensor, times};
 pub use sums::{add, sub};
