@@ -1,3 +1,4 @@
 pub mod Degrees
 pub mod Indices
 pub mod Rows
+pub mod RulesExist

@@ -2,6 +2,7 @@ pub mod CommonDivisors
 pub mod DecimalSteps
 pub mod LowestTerms
 pub mod Powers
+pub mod Reciprocals
 pub mod Ring
 pub mod RoomOfSums
 pub mod SumsOfProducts

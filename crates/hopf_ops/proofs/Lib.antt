@@ -7,7 +7,6 @@ pub mod ProductsExist
 pub mod ProductsOfKeys
 pub mod ProductsOfValues
 pub mod Rooms
-pub mod RulesExist
 pub mod ScalarProductsExist
 pub mod SumsExist
 pub mod SumsOfValues

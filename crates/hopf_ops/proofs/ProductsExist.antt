@@ -22,7 +22,7 @@ use Rattle.basis_routes.specs.Checks.{Passes}
 use Rattle.basis_routes.specs.Joins.{joined, join_checks}
 use Rattle.basis_routes.proofs.Degrees.{least_limit-small}
 use Rattle.basis_routes.proofs.Rows.{passes_last}
-use Rattle.hopf_ops.proofs.RulesExist.{elements_product_exists}
+use Rattle.basis_routes.proofs.RulesExist.{elements_product_exists}
 use Rattle.hopf_ops.specs.Gathering.{IsGathered, AreFactors, AreFactorKeys, IsProductOfKeys, AreGathered, AddsMultiple, degree_of_product}
 use Rattle.hopf_ops.specs.Operations.{common_checks, has_scalar, product_room, component_checks, product_checks, product_bases, product_of}
 use Rattle.hopf_ops.proofs.Gathering.{none_gathered, factor_keys, product_room as next_room, product_gathered, row_gathered, all_gathered}

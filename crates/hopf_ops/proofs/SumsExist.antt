@@ -17,14 +17,12 @@ use Rattle.linear_combos.proofs.SumsOfCombos.{IsSignedSum-combined, IsSum-signed
 use Rattle.hopf_laws.specs.declared.bases.BasisId.{BasisId}
 use Rattle.hopf_laws.specs.Bases.{least_limit}
 use Rattle.hopf_laws.specs.Values.{Expansion, IsValue, Expands, degree_of_value}
-use Rattle.basis_routes.specs.declared.refusal.Refusal.{Refusal}
 use Rattle.basis_routes.specs.declared.checks.Check.{Check}
 use Rattle.basis_routes.specs.declared.checks.Check.TheVariants.{SameRank, Joined, DegreeWithin, Room}
-use Rattle.basis_routes.specs.Checks.{Passes, IsCheck, IsFirstFailing}
+use Rattle.basis_routes.specs.Checks.{Passes, IsCheck}
 use Rattle.basis_routes.specs.Joins.{joined, join_checks}
 use Rattle.hopf_ops.specs.Operations.{common_checks, sum_checks, sum_or_difference_of}
 use Rattle.hopf_ops.specs.Answers.{IsSumOrDifference}
-use Rattle.hopf_ops.proofs.DecidedChecks.{checks_decided}
 use Rattle.hopf_ops.proofs.LowestExist.{combination_exists}
 use Rattle.hopf_ops.proofs.SumsOfValues.{sum_over, sum_reads}
 
@@ -201,11 +199,3 @@ sum_checks_are m a b ha hb =
     let degree = max (degree_of_value a) (degree_of_value b) in
     All-append IsCheck (common_checks degree a b) (common ∷ sum ∷ []) (common_checks_are degree a b)
     (All-cons IsCheck common (sum ∷ []) (ha.canonical.lowest.positive, hb.canonical.lowest.positive) (All-cons IsCheck sum [] tt (All-nil IsCheck)))
-
--- two values have a sum or difference, or one of its checks is the first that fails
-pub sum_decided : (m : ℕ) (minus : Bool) (a b : Expansion) → IsValue a → IsValue b → IsLcm a.combination.den b.combination.den m
-    → ((v : Expansion) × Expands (joined a.bases b.bases) (sum_or_difference_of minus a b) v) ⊎ ((refusal : Refusal) × IsFirstFailing (sum_checks m a b) refusal)
-sum_decided m minus a b ha hb least = elim (checks_decided (sum_checks m a b) (sum_checks_are m a b ha hb)) [
-  | inl pass ↦ inl (sum_exists m minus a b ha hb least pass)
-  | inr fails ↦ inr fails
-]

@@ -1,3 +1,4 @@
+pub mod Agreement
 pub mod ClassBases
 pub mod Coefficients
 pub mod DescentCompositions

@@ -6,6 +6,7 @@ use Rattle.std.specs.Int.{◌∣◌, IsGcd}
 use Rattle.std.specs.declared.cmp.Ordering.TheVariants.{Less}
 use Rattle.std.proofs.Math.Nat.{dvd-mul_left, dvd_of_mul-dvd-mul_left, mul-div_cancel', pos_of_dvd_of_pos, mul_assoc, mul_comm, mul-one}
 use Rattle.std.proofs.lemmas.Nat.Gcd.{dvd_antisymm}
+use Rattle.linear_combos.proofs.Agreement.{agree_trans}
 use Rattle.linear_combos.specs.Rows.{Row}
 use Rattle.linear_combos.specs.Indices.{AreIndices}
 use Rattle.linear_combos.specs.ClassBases.{AreClassBases, representatives}
@@ -141,15 +142,6 @@ unique rows classes c d hc hd rc rd ic id agree =
     ∙ ap (λ z. z *ℤ pos c.den) (numerator-representatives rows classes d.den d.terms key id h)
     ∙ sym (coefficient-scaled c.den d.terms key))))
 
--- two readings that agree with a third one agree
-agree_through : (x y n : ℤ) (a b m : ℕ) → 1 ≤ m → x *ℤ pos m ≡ n *ℤ pos a → y *ℤ pos m ≡ n *ℤ pos b → x *ℤ pos b ≡ y *ℤ pos a
-agree_through x y n a b m positive hx hy =
-    *ℤ-pos_cancel _ _ m positive
-    (swapped x (pos b) (pos m) ∙ ap (λ z. z *ℤ pos b) hx ∙ swapped n (pos a) (pos b) ∙ ap (λ z. z *ℤ pos a) (sym hy) ∙ swapped y (pos m) (pos a))
-  where
-    swapped : (u v w : ℤ) → (u *ℤ v) *ℤ w ≡ (u *ℤ w) *ℤ v
-    swapped u v w = sym (*ℤ_assoc u v w) ∙ ap (λ z. u *ℤ z) (*ℤ_comm v w) ∙ *ℤ_assoc u w v
-
 -- canonical combinations over class bases that agree with one reading at all tuples of points are the same
 pub unique_reading : (rows : List Row) (r : Reading) (c d : Combination) → AreClassBases rows → IsCanonical c.rank c.den c.terms → IsCanonical d.rank d.den d.terms
     → c.rank ≡ length rows → d.rank ≡ length rows → 1 ≤ denominator r
@@ -162,4 +154,4 @@ unique_reading rows r c d classes hc hd rc rd positive ic id ac ad =
     (λ key h.
     let ps = representatives rows classes key h in
     let long = length-representatives rows classes key h in
-    agree_through (numerator (leaf rows c.den c.terms) ps) (numerator (leaf rows d.den d.terms) ps) (numerator r ps) c.den d.den (denominator r) positive (ac ps long) (ad ps long))
+    agree_trans (leaf rows c.den c.terms) r (leaf rows d.den d.terms) ps positive (ac ps long) (sym (ad ps long)))

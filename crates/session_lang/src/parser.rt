@@ -505,7 +505,7 @@ impl Parser {
         }
     }
 
-    // In a sum, but in a list or behind the operand of a call.
+    // The step by what is awaited, once a sum has begun.
     fn step_in_sum(self, alloc: Global, lexeme: Lexeme) -> Result<Option<Parser>, OutOfMemory>
         ensures { IfOk result (λ o. option_map state_of o ≡ inner_step self.stack.base self.mode (reverse self.stack.below) self.stack.level lexeme) }
     {

@@ -1,4 +1,4 @@
-use Rattle.std.proofs.Common.{◌≡◌, ◌≢◌, pos, unsigned_abs, ap, subst, sym, ◌∙◌, to_z, of_z}
+use Rattle.std.proofs.Common.{◌≡◌, ◌≢◌, pos, unsigned_abs, ap, subst, sym, ◌∙◌, to_z}
 use Rattle.std.specs.Int.{w128}
 use Rattle.std.proofs.lemmas.Int.{to_z-of_z, to_z_pos, fits_signed_from_abs}
 use Rattle.hopf_num.proofs.LowestTerms.{abs-neg, IsFraction-turned}
