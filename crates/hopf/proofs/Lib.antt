@@ -1,9 +1,18 @@
-pub mod Completeness
-pub mod ElementProducts
-pub mod Existence
-pub mod OneOutcome
-pub mod OneTranscript
-pub mod Products
-pub mod Runs
-pub mod Sessions
-pub mod Statements
+mod BuiltForms
+mod BuiltStatements
+mod Completeness
+mod EvaluationSteps
+mod EvaluationsExist
+mod Existence
+mod KnownNames
+mod Meanings
+mod OneEvaluation
+mod OneMeaning
+mod OneOutcome
+mod OneTranscript
+mod Operations
+mod ReadStatements
+mod Runs
+mod Sessions
+mod Statements
+mod Told

@@ -1,59 +1,96 @@
--- A text has one outcome.
-use Rattle.std.proofs.Common.{◌≡◌, ℕ, List, Ok, Err, Result, refl, sym, ◌∙◌, ap, subst, arith}
-use Rattle.hopf_laws.specs.Values.{Expansion}
+-- A text has one outcome in names that stand for values, and leaves one list of them.
+use Rattle.std.proofs.Common.{◌≡◌, ℕ, List, true, false, Ok, Err, Result, refl, sym, ◌∙◌, ap, subst, arith}
+use Rattle.hopf_laws.specs.Values.{Expansion, IsValue}
+use Rattle.session_lang.specs.declared.expression.Expr.{Expr}
 use Rattle.session_lang.specs.declared.expression.Statement.{Statement}
 use Rattle.session_lang.specs.declared.expression.Statement.TheVariants as s
 use Rattle.session_lang.specs.declared.fault.GrammarFault.{GrammarFault}
 use Rattle.session_lang.specs.Parses.{IsAnswer}
+use Rattle.session_lang.specs.Text.{IsTextOf}
 use Rattle.session_lang.proofs.OneAnswer.{answer_once}
+use Rattle.session_lang.proofs.OneText.{text_once}
+use Rattle.hopf.specs.declared.refusal.StatementRefusal.{StatementRefusal}
 use Rattle.hopf.specs.declared.refusal.StatementRefusal.TheVariants as refusal
 use Rattle.hopf.specs.declared.statement.Outcome.{Outcome}
-use Rattle.hopf.specs.declared.statement.Outcome.TheVariants.{Refused}
-use Rattle.hopf.specs.Outcomes.{element_value, IsProduct, IsEvaluated, IsOutcomeOf, empty, product, not_built, IsOutcome, too_long, refused, read}
-use Rattle.hopf.proofs.ElementProducts.{evaluated_once}
-use Rattle.hopf.proofs.Products.{Elements, elements, same_elements}
+use Rattle.hopf.specs.declared.statement.Outcome.TheVariants.{Printed, Refused}
+use Rattle.hopf.specs.Built.{IsBuiltStatement, assigned as built_assignment}
+use Rattle.hopf.specs.Names.{Names, AreValues}
+use Rattle.hopf.specs.Evaluation.{Answer, Evaluates}
+use Rattle.hopf.specs.Outcomes.{Keeps, room, no_room, IsOutcomeOf, empty, printed, not_printed, kept, not_kept, IsOutcome, too_long, misread, read}
+use Rattle.hopf.proofs.BuiltStatements.{sound_built}
+use Rattle.hopf.proofs.EvaluationsExist.{evaluated_value}
+use Rattle.hopf.proofs.KnownNames.{values-with_value}
+use Rattle.hopf.proofs.OneEvaluation.{evaluation_once, evaluated_positive}
 
--- the empty statement prints no product
-no-product : (st : Statement) (a b : Expansion) → st ≡ s.Empty → IsProduct st a b → ⊥
-no-product st a b is h = let k = elements h in let other = k.is in absurd (cc)
+same_value : (names : Names) (x : Expr) (v w : Expansion) → AreValues names → Evaluates names x (Ok v) → Evaluates names x (Ok w) → v ≡ w
+same_value names x v w are h k = let same : ◌≡◌ {A = Answer} (Ok v) (Ok w) = evaluation_once names x (Ok v) (Ok w) are h k in cc
 
--- a statement prints one product at most
-product-outcomes : (st : Statement) (a b c d : Expansion) (o p : Outcome) (k : Elements st a b) (l : Elements st c d) → IsEvaluated a b o → IsEvaluated c d p → o ≡ p
-product-outcomes st a b c d o p k l h i =
-    let same = same_elements k l in
-    let here : IsEvaluated (element_value k.p k.left) (element_value k.q k.right) o = subst (λ (x : Expansion). IsEvaluated x (element_value k.q k.right) o) k.first (subst (λ (y : Expansion). IsEvaluated a y o) k.second h) in
-    let there : IsEvaluated (element_value k.p k.left) (element_value k.q k.right) p =
-    subst (λ (x : Expansion). IsEvaluated x (element_value k.q k.right) p) (sym same.0 ∙ k.first) (subst (λ (y : Expansion). IsEvaluated c y p) (sym same.1 ∙ k.second) i) in
-    evaluated_once k.p k.q k.left k.right o p here there
+same_refusal : (names : Names) (x : Expr) (r q : StatementRefusal) → AreValues names → Evaluates names x (Err r) → Evaluates names x (Err q) → r ≡ q
+same_refusal names x r q are h k = let same : ◌≡◌ {A = Answer} (Err r) (Err q) = evaluation_once names x (Err r) (Err q) are h k in cc
 
-outcome_of_once : (st : Statement) (o p : Outcome) → IsOutcomeOf st o → IsOutcomeOf st p → o ≡ p
-outcome_of_once st o p (empty t) (empty u) = refl
-outcome_of_once st o p (empty t) (product {a = a} {b = b} k i) = absurd (no-product st a b t k)
-outcome_of_once st o p (empty t) (not_built some none) = absurd (some t)
-outcome_of_once st o p (product {a = a} {b = b} h i) (empty u) = absurd (no-product st a b u h)
-outcome_of_once st o p (product {a = a} {b = b} h i) (product {a = c} {b = d} k j) = product-outcomes st a b c d o p (elements h) (elements k) i j
-outcome_of_once st o p (product {a = a} {b = b} h i) (not_built some none) = absurd (none a b h)
-outcome_of_once st o p (not_built some none) (empty u) = absurd (some u)
-outcome_of_once st o p (not_built some none) (product {a = a} {b = b} k i) = absurd (none a b k)
-outcome_of_once st o p (not_built some none) (not_built some' none') = refl
+not_both : (names : Names) (x : Expr) (v : Expansion) (r : StatementRefusal) → AreValues names → Evaluates names x (Ok v) → Evaluates names x (Err r) → ⊥
+not_both names x v r are h k = let same : ◌≡◌ {A = Answer} (Ok v) (Err r) = evaluation_once names x (Ok v) (Err r) are h k in absurd (cc)
 
-same-fault : (text : List ℕ) (f g : GrammarFault) → IsAnswer text (Err f) → IsAnswer text (Err g) → f ≡ g
-same-fault text f g h k = let same : ◌≡◌ {A = Result Statement GrammarFault} (Err f) (Err g) = answer_once text (Err f) (Err g) h k in cc
+same_text : (names : Names) (x : Expr) (v w : Expansion) (a b : List ℕ) → AreValues names → Evaluates names x (Ok v) → Evaluates names x (Ok w) → IsTextOf v a → IsTextOf w b → a ≡ b
+same_text names x v w a b are h k t u =
+    text_once v a b (evaluated_positive names x (Ok v) are h) t (subst (λ (z : Expansion). IsTextOf z b) (sym (same_value names x v w are h k)) u)
 
-same-statement : (text : List ℕ) (st su : Statement) → IsAnswer text (Ok st) → IsAnswer text (Ok su) → st ≡ su
-same-statement text st su h k = let same : ◌≡◌ {A = Result Statement GrammarFault} (Ok st) (Ok su) = answer_once text (Ok st) (Ok su) h k in cc
+-- a name is given a value in one way
+keeps_once : (names : Names) (name : List ℕ) (v : Expansion) (o p : Outcome) (left left' : Names) → Keeps names name v o left → Keeps names name v p left' → (o ≡ p) × (left ≡ left')
+keeps_once names name v o p left left' (room h) (room k) = (refl, refl)
+keeps_once names name v o p left left' (room h) (no_room k) = let both : true ≡ false = sym h ∙ k in absurd (cc)
+keeps_once names name v o p left left' (no_room h) (room k) = let both : true ≡ false = sym k ∙ h in absurd (cc)
+keeps_once names name v o p left left' (no_room h) (no_room k) = (refl, refl)
 
-read-or-refused : (text : List ℕ) (st : Statement) (f : GrammarFault) → IsAnswer text (Ok st) → IsAnswer text (Err f) → ⊥
-read-or-refused text st f h k = let same : ◌≡◌ {A = Result Statement GrammarFault} (Ok st) (Err f) = answer_once text (Ok st) (Err f) h k in absurd (cc)
+outcome_of_once : (names : Names) (st : Statement) (o p : Outcome) (left left' : Names) → AreValues names → IsOutcomeOf names st o left → IsOutcomeOf names st p left' → (o ≡ p) × (left ≡ left')
+outcome_of_once names st o p left left' are empty empty = (refl, refl)
+outcome_of_once names st o p left left' are (printed {x = x} {v = v} {text = a} h m t) (printed {v = w} {text = b} k n u) = (ap Printed (same_text names x v w a b are h k t u), refl)
+outcome_of_once names st o p left left' are (printed {x = x} {v = v} h m t) (not_printed {r = r} k) = absurd (not_both names x v r are h k)
+outcome_of_once names st o p left left' are (not_printed {x = x} {r = r} k) (printed {v = v} h m t) = absurd (not_both names x v r are h k)
+outcome_of_once names st o p left left' are (not_printed {x = x} {r = r} h) (not_printed {r = q} k) = (ap Refused (same_refusal names x r q are h k), refl)
+outcome_of_once names st o p left left' are (kept {name = name} {x = x} {v = v} h m i) (kept {v = w} k n j) =
+    keeps_once names name v o p left left' i (subst (λ (z : Expansion). Keeps names name z p left') (sym (same_value names x v w are h k)) j)
+outcome_of_once names st o p left left' are (kept {x = x} {v = v} h m i) (not_kept {r = r} k) = absurd (not_both names x v r are h k)
+outcome_of_once names st o p left left' are (not_kept {x = x} {r = r} k) (kept {v = v} h m i) = absurd (not_both names x v r are h k)
+outcome_of_once names st o p left left' are (not_kept {x = x} {r = r} h) (not_kept {r = q} k) = (ap Refused (same_refusal names x r q are h k), refl)
 
-pub outcome_once : (text : List ℕ) (o p : Outcome) → IsOutcome text o → IsOutcome text p → o ≡ p
-outcome_once text o p (too_long long) (too_long long') = refl
-outcome_once text o p (too_long long) (refused short k) = absurd (omega (arith, long, short))
-outcome_once text o p (too_long long) (read short k j) = absurd (omega (arith, long, short))
-outcome_once text o p (refused short h) (too_long long) = absurd (omega (arith, long, short))
-outcome_once text o p (refused {f = f} short h) (refused {f = g} short' k) = ap (λ (x : GrammarFault). Refused (refusal.Grammar x)) (same-fault text f g h k)
-outcome_once text o p (refused {f = f} short h) (read {st = st} short' k j) = absurd (read-or-refused text st f k h)
-outcome_once text o p (read short h i) (too_long long) = absurd (omega (arith, long, short))
-outcome_once text o p (read {st = st} short h i) (refused {f = f} short' k) = absurd (read-or-refused text st f h k)
-outcome_once text o p (read {st = st} short h i) (read {st = su} short' k j) =
-    outcome_of_once st o p i (subst (λ (z : Statement). IsOutcomeOf z p) (sym (same-statement text st su h k)) j)
+same_fault : (text : List ℕ) (f g : GrammarFault) → IsAnswer text (Err f) → IsAnswer text (Err g) → f ≡ g
+same_fault text f g h k = let same : ◌≡◌ {A = Result Statement GrammarFault} (Err f) (Err g) = answer_once text (Err f) (Err g) h k in cc
+
+same_statement : (text : List ℕ) (st su : Statement) → IsAnswer text (Ok st) → IsAnswer text (Ok su) → st ≡ su
+same_statement text st su h k = let same : ◌≡◌ {A = Result Statement GrammarFault} (Ok st) (Ok su) = answer_once text (Ok st) (Ok su) h k in cc
+
+read_or_misread : (text : List ℕ) (st : Statement) (f : GrammarFault) → IsAnswer text (Ok st) → IsAnswer text (Err f) → ⊥
+read_or_misread text st f h k = let same : ◌≡◌ {A = Result Statement GrammarFault} (Ok st) (Err f) = answer_once text (Ok st) (Err f) h k in absurd (cc)
+
+pub outcome_once : (names : Names) (text : List ℕ) (o p : Outcome) (left left' : Names) → AreValues names → IsOutcome names text o left → IsOutcome names text p left' → (o ≡ p) × (left ≡ left')
+outcome_once names text o p left left' are (too_long long) (too_long long') = (refl, refl)
+outcome_once names text o p left left' are (too_long long) (misread short k) = absurd (omega (arith, long, short))
+outcome_once names text o p left left' are (too_long long) (read short k j) = absurd (omega (arith, long, short))
+outcome_once names text o p left left' are (misread short h) (too_long long) = absurd (omega (arith, long, short))
+outcome_once names text o p left left' are (misread {f = f} short h) (misread {f = g} short' k) = (ap (λ (x : GrammarFault). Refused (refusal.Grammar x)) (same_fault text f g h k), refl)
+outcome_once names text o p left left' are (misread {f = f} short h) (read {st = st} short' k j) = absurd (read_or_misread text st f k h)
+outcome_once names text o p left left' are (read short h i) (too_long long) = absurd (omega (arith, long, short))
+outcome_once names text o p left left' are (read {st = st} short h i) (misread {f = f} short' k) = absurd (read_or_misread text st f h k)
+outcome_once names text o p left left' are (read {st = st} short h i) (read {st = su} short' k j) =
+    outcome_of_once names st o p left left' are i (subst (λ (z : Statement). IsOutcomeOf names z p left') (sym (same_statement text st su h k)) j)
+
+-- what an outcome leaves stands for values
+keeps_values : (names : Names) (name : List ℕ) (v : Expansion) (o : Outcome) (left : Names) → AreValues names → IsValue v → Keeps names name v o left → AreValues left
+keeps_values names name v o left are is (room h) = values-with_value names name v are is
+keeps_values names name v o left are is (no_room h) = are
+
+built_assigned : (names : Names) (name : List ℕ) (x : Expr) (v : Expansion) → AreValues names → IsBuiltStatement (s.Assign name x) → Evaluates names x (Ok v) → IsValue v
+built_assigned names name x v are (built_assignment built) h = evaluated_value names x v are built h
+
+left_values : (names : Names) (st : Statement) (o : Outcome) (left : Names) → AreValues names → IsBuiltStatement st → IsOutcomeOf names st o left → AreValues left
+left_values names st o left are built empty = are
+left_values names st o left are built (printed h m t) = are
+left_values names st o left are built (not_printed h) = are
+left_values names st o left are built (kept {name = name} {x = x} {v = v} h m i) = keeps_values names name v o left are (built_assigned names name x v are built h) i
+left_values names st o left are built (not_kept h) = are
+
+pub values_left : (names : Names) (text : List ℕ) (o : Outcome) (left : Names) → AreValues names → IsOutcome names text o left → AreValues left
+values_left names text o left are (too_long long) = are
+values_left names text o left are (misread short h) = are
+values_left names text o left are (read {st = st} short h i) = left_values names st o left are (sound_built _ st h.answers) i

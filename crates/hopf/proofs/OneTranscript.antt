@@ -1,29 +1,35 @@
 -- Every list of bytes has one transcript.
-use Rattle.std.proofs.Common.{◌≡◌, ℕ, List, [], ◌∷◌, Bool, true, false, MatchBool, sym, ◌∙◌}
+use Rattle.std.proofs.Common.{◌≡◌, ℕ, List, [], ◌∷◌, Bool, true, false, MatchBool, sym, ◌∙◌, subst}
 use Rattle.std.specs.List.{slice_split}
 use Rattle.hopf.specs.declared.statement.Outcome.{Outcome}
+use Rattle.hopf.specs.Names.{Names, AreValues}
 use Rattle.hopf.specs.Outcomes.{IsOutcome}
 use Rattle.hopf.specs.Transcript.{AreOutcomes, IsScript, is_end, is_none, trimmed, unfinished}
-use Rattle.hopf.proofs.OneOutcome.{outcome_once}
+use Rattle.hopf.proofs.OneOutcome.{outcome_once, values_left}
 
 -- the outcomes from a part on, by whether it is the last
-abbrev pub FromPart : List ℕ → List (List ℕ) → Bool → List Outcome → Type 0
-FromPart part parts last os = MatchBool last (os ≡ unfinished (trimmed part))
-    ((outcome : Outcome) × (rest : List Outcome) × (os ≡ outcome ∷ rest) × IsOutcome (trimmed part) outcome × AreOutcomes parts rest)
+abbrev pub FromPart : Names → List ℕ → List (List ℕ) → Bool → List Outcome → Names → Type 0
+FromPart names part parts last os left = MatchBool last ((os ≡ unfinished (trimmed part)) × (left ≡ names))
+    ((outcome : Outcome) × (next : Names) × (rest : List Outcome) × (os ≡ outcome ∷ rest) × IsOutcome names (trimmed part) outcome next × AreOutcomes next parts rest left)
 
 -- one step, where the rest is determined
-by_last : (part : List ℕ) (parts : List (List ℕ)) (last : Bool) (os os' : List Outcome)
-    → ((rest rest' : List Outcome) → AreOutcomes parts rest → AreOutcomes parts rest' → rest ≡ rest')
-    → FromPart part parts last os → FromPart part parts last os' → os ≡ os'
-by_last part parts true os os' once h k = h ∙ sym k
-by_last part parts false os os' once (o, rest, are, is, more) (o', rest', are', is', more') =
-    let first : o ≡ o' = outcome_once (trimmed part) o o' is is' in
-    let later : rest ≡ rest' = once rest rest' more more' in
-    cc
+by_last : (names : Names) (part : List ℕ) (parts : List (List ℕ)) (last : Bool) (os os' : List Outcome) (left left' : Names) → AreValues names
+    → ((next : Names) (rest rest' : List Outcome) → AreValues next → AreOutcomes next parts rest left → AreOutcomes next parts rest' left' → (rest ≡ rest') × (left ≡ left'))
+    → FromPart names part parts last os left → FromPart names part parts last os' left' → (os ≡ os') × (left ≡ left')
+by_last names part parts true os os' left left' are once h k = (h.0 ∙ sym k.0, h.1 ∙ sym k.1)
+by_last names part parts false os os' left left' are once (o, next, rest, all, is, more) (o', next', rest', all', is', more') =
+    let same = outcome_once names (trimmed part) o o' next next' are is is' in
+    let later = once next rest rest' (values_left names (trimmed part) o next are is) more (subst (λ (n : Names). AreOutcomes n parts rest' left') (sym same.1) more') in
+    let first : o ≡ o' = same.0 in
+    let behind : rest ≡ rest' = later.0 in
+    (cc, later.1)
 
-outcomes_once : (parts : List (List ℕ)) (os os' : List Outcome) → AreOutcomes parts os → AreOutcomes parts os' → os ≡ os'
-outcomes_once [] os os' h k = h ∙ sym k
-outcomes_once (part ∷ parts) os os' h k = by_last part parts (is_none parts) os os' (outcomes_once parts) h k
+outcomes_once : (names : Names) (parts : List (List ℕ)) (os os' : List Outcome) (left left' : Names) → AreValues names → AreOutcomes names parts os left → AreOutcomes names parts os' left'
+    → (os ≡ os') × (left ≡ left')
+outcomes_once names [] os os' left left' are h k = (h.0 ∙ sym k.0, h.1 ∙ sym k.1)
+outcomes_once names (part ∷ parts) os os' left left' are h k =
+    by_last names part parts (is_none parts) os os' left left' are (λ next rest rest' are_next. outcomes_once next parts rest rest' left left' are_next) h k
 
-pub script_once : (bytes : List ℕ) (os os' : List Outcome) → IsScript bytes os → IsScript bytes os' → os ≡ os'
-script_once bytes os os' h k = outcomes_once (slice_split is_end bytes) os os' h k
+pub script_once : (names : Names) (bytes : List ℕ) (os os' : List Outcome) (left left' : Names) → AreValues names → IsScript names bytes os left → IsScript names bytes os' left'
+    → (os ≡ os') × (left ≡ left')
+script_once names bytes os os' left left' are h k = outcomes_once names (slice_split is_end bytes) os os' left left' are h k

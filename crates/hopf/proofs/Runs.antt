@@ -1,5 +1,7 @@
 -- What a session says of the whole input.
-use Rattle.std.proofs.Common.{◌≡◌, ℕ, ◌≤◌, List, [], ◌++◌, length, Option, Some, None, Err, IsErrOf, IfSome, ap, ◌∙◌, sym, subst, append-nil}
+use Rattle.std.proofs.Common.{◌≡◌, ℕ, ◌+◌, ◌≤◌, List, [], ◌∷◌, ◌++◌, Bool, true, false, ◌||◌, if◌then◌else◌, nat_lt, length, Option, Some, None, Err, IsErrOf, IfSome, refl, ap, ◌∙◌, sym, subst, arith, append-nil}
+use Rattle.std.proofs.lemmas.Bool.{lt-ltb}
+use Rattle.std.proofs.lemmas.List.Sums.{sum_by-cons}
 use Rattle.std.specs.Io.KnownBytes.{Consumes, IsAtEnd}
 use Rattle.hopf.specs.declared.statement.Outcome.{Outcome}
 use Rattle.hopf.specs.declared.session.Session.{Session}
@@ -7,9 +9,11 @@ use Rattle.hopf.specs.declared.session.SessionFault.{SessionFault}
 use Rattle.hopf.specs.declared.session.SessionFault.TheVariants.{Write}
 use Rattle.hopf.specs.declared.status.Status.{Status}
 use Rattle.hopf.specs.declared.status.Status.TheVariants.{Memory, WriteFault}
-use Rattle.hopf.specs.Transcript.{lines}
-use Rattle.hopf.specs.Sessions.{Script, StopsWhole}
-use Rattle.hopf.specs.Runs.{WritesPrefix, HasRoom}
+use Rattle.hopf.specs.Names.{Names}
+use Rattle.hopf.specs.Outcomes.{is_refusal}
+use Rattle.hopf.specs.Transcript.{lines, count_refused, some_refused}
+use Rattle.hopf.specs.Sessions.{Script, Runs, StopsWhole}
+use Rattle.hopf.specs.Runs.{is_refused, WritesTranscript, WritesPrefix, HasRoom}
 
 -- what is said of all that was read is said of all that was left
 pub at_left : (left left' : Option (List ℕ)) (bytes : List ℕ) (P : List ℕ → Type 0) → Consumes left left' bytes → IsAtEnd left' → P bytes → IfSome left P
@@ -17,20 +21,41 @@ at_left None left' bytes P h e p = tt
 at_left (Some x) None bytes P h e p = absurd h
 at_left (Some x) (Some y) bytes P h e p = subst P (sym (h ∙ ap (λ l. bytes ++ l) e ∙ append-nil bytes)) p
 
+some_more : (here : Bool) (count : ℕ) (later : Bool) → nat_lt 0 count ≡ later → nat_lt 0 ((if here then 1 else 0) + count) ≡ (here || later)
+some_more true count later h = lt-ltb 0 (1 + count) (omega arith)
+some_more false count later h = ap (nat_lt 0) (omega arith) ∙ h
+
+-- some outcome is a refusal where their count is not 0
+pub count_refused-some : (os : List Outcome) → nat_lt 0 (count_refused os) ≡ some_refused os
+count_refused-some [] = refl
+count_refused-some (o ∷ os) =
+    ap (nat_lt 0) (sum_by-cons (λ (x : Outcome). if is_refusal x then 1 else 0) o os) ∙ some_more (is_refusal o) (count_refused os) (some_refused os) (count_refused-some os)
+
+-- a new session ran the whole input
+pub transcript_of_new : (s new : Session) (status : Status) (bytes : List ℕ) (t t' : Option (List ℕ)) → s.names ≡ [] → s.pending ≡ [] → s.statements ≡ 0 → s.refused ≡ 0
+    → is_refused status ≡ nat_lt 0 new.refused → Runs s new bytes t t' → WritesTranscript status bytes t t'
+transcript_of_new s new status bytes t t' names pending statements refused is h = record {
+  outcomes = h.outcomes;
+  names = new.names;
+  are = rw (names, pending) at h.are;
+  appended = rw statements at h.appended;
+  refused = is ∙ ap (nat_lt 0) (h.refused ∙ omega (arith, refused)) ∙ count_refused-some h.outcomes;
+}
+
 -- a new session stopped
-pub prefix_of_new : (s : Session) (bytes : List ℕ) (t t' : Option (List ℕ)) → s.pending ≡ [] → s.statements ≡ 0 → StopsWhole s bytes t t' → WritesPrefix bytes t t'
-prefix_of_new s bytes t t' pending statements h = record {
+pub prefix_of_new : (s : Session) (bytes : List ℕ) (t t' : Option (List ℕ)) → s.names ≡ [] → s.pending ≡ [] → s.statements ≡ 0 → StopsWhole s bytes t t' → WritesPrefix bytes t t'
+prefix_of_new s bytes t t' names pending statements h = record {
   written = h.written;
   appended = h.appended;
-  prefix = λ os script. rw statements at (h.prefix os (rw pending script));
+  prefix = λ os left script. rw statements at (h.prefix os left (rw (names, pending) script));
 }
 
 -- a new session over a sink that is steady with room
-pub never_of_new : (s : Session) (bytes : List ℕ) (room : Option ℕ) (fault : SessionFault) → s.pending ≡ [] → s.statements ≡ 0
-    → ((n : ℕ) (os : List Outcome) → room ≡ Some n → Script s bytes os → length (lines s.statements os) ≤ n → IsErrOf {T = Unit {0}} (Err fault) Write → ⊥)
+pub never_of_new : (s : Session) (bytes : List ℕ) (room : Option ℕ) (fault : SessionFault) → s.names ≡ [] → s.pending ≡ [] → s.statements ≡ 0
+    → ((n : ℕ) (os : List Outcome) (left : Names) → room ≡ Some n → Script s bytes os left → length (lines s.statements os) ≤ n → IsErrOf {T = Unit {0}} (Err fault) Write → ⊥)
     → HasRoom room bytes → fault ≡ Write → ⊥
-never_of_new s bytes room fault pending statements h has same =
-    h has.bytes_left has.outcomes has.steady (rw pending has.are) (rw statements has.enough) (ap Err same)
+never_of_new s bytes room fault names pending statements h has same =
+    h has.bytes_left has.outcomes has.names has.steady (rw (names, pending) has.are) (rw statements has.enough) (ap Err same)
 
 pub not_both : (s : Status) → s ≡ Memory → s ≡ WriteFault → ⊥
 not_both s a b = let e : Memory ≡ WriteFault = sym a ∙ b in cc

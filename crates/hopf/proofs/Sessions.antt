@@ -1,55 +1,69 @@
 -- How a session goes on from piece to piece.
-use Rattle.std.proofs.Common.{◌≡◌, ℕ, ◌+◌, ◌-◌, ◌<◌, ◌≤◌, List, [], ◌∷◌, ◌++◌, length, take, drop, get_or, Bool, true, false, ◌||◌, ◌==◌, Option, Some, Result, Err, refl, ap, ◌∙◌, sym, subst, arith, append_assoc, append-nil, length-append, add-one, drop-cons, take-append-drop}
-use Rattle.std.proofs.Math.Bool.{or_assoc}
+use Rattle.std.proofs.Common.{◌≡◌, ◌⊎◌, inl, inr, ℕ, ◌+◌, ◌-◌, ◌<◌, ◌≤◌, List, [], ◌∷◌, ◌++◌, length, take, drop, get_or, Bool, true, false, if◌then◌else◌, ◌==◌, Option, Some, Result, Err, refl, ap, ◌∙◌, sym, subst, arith, append_assoc, append-nil, length-append, add-one, drop-cons, take-append-drop}
+use Rattle.std.proofs.lemmas.Bool.{eqb-true}
+use Rattle.std.proofs.lemmas.List.{nil_from_length}
+use Rattle.std.proofs.lemmas.List.Sums.{sum_by-cons}
 use Rattle.std.specs.Io.KnownBytes.{Appends}
 use Rattle.std.proofs.KnownBytes.{Appends-nil, Appends-trans}
 use Rattle.hopf_io.specs.Prefixes.{AppendsPrefix}
 use Rattle.hopf_io.specs.Steady.{SendsSteadily}
 use Rattle.hopf_io.specs.declared.source.Failed.{Failed}
-use Rattle.hopf.specs.declared.statement.Outcome.{Outcome}
+use Rattle.session_lang.specs.Tokens.{is_blank}
 use Rattle.hopf.specs.declared.session.Session.{Session}
 use Rattle.hopf.specs.declared.session.SessionFault.{SessionFault}
-use Rattle.hopf.specs.Outcomes.{line_of, is_refusal}
-use Rattle.hopf.proofs.OneOutcome.{outcome_once}
-use Rattle.session_lang.specs.Tokens.{is_blank}
-use Rattle.hopf.specs.Transcript.{is_end, IsScript, lines, some_refused, unfinished, unfinished_refusal, IsText}
-use Rattle.hopf.specs.Sessions.{Script, Same, Continues, Advances, Stops, WritesIfSteady, Ends, EndStops, EndIfSteady, Runs, StopsWhole, last_of}
-use Rattle.std.proofs.lemmas.List.{nil_from_length}
-use Rattle.std.proofs.lemmas.Bool.{eqb-true}
+use Rattle.hopf.specs.declared.statement.Outcome.{Outcome}
 use Rattle.hopf.specs.declared.statement.Outcome.TheVariants.{Refused}
+use Rattle.hopf.specs.Names.{Names}
+use Rattle.hopf.specs.Outcomes.{IsOutcome, line_of, is_printed, is_refusal}
+use Rattle.hopf.specs.Transcript.{is_end, IsScript, lines, count_printed, count_refused, unfinished, unfinished_refusal}
+use Rattle.hopf.specs.Sessions.{Script, Same, Continues, Advances, Leaves, Stops, WritesIfSteady, Ends, EndStops, EndIfSteady, Finishes, Runs, StopsWhole, last_of}
+use Rattle.hopf.proofs.OneOutcome.{outcome_once}
 use Rattle.hopf.proofs.Statements.{script_end, from_script_end, script_blank, from_script_blank, script_last, from_script_last}
 
 same_then : (a b c : Session) (w v : List ℕ) (xs ys zs : List Outcome) → Same a b w xs ys → Same b c v ys zs → Same a c (w ++ v) xs zs
 same_then a b c w v xs ys zs h k = record {
   lines = h.lines ∙ ap (λ l. w ++ l) k.lines ∙ sym (append_assoc w v (lines c.statements zs));
+  statements = h.statements ∙ k.statements;
+  printed = h.printed ∙ k.printed;
   refused = h.refused ∙ k.refused;
 }
 
 continues_then : (a b c : Session) (x y z : List ℕ) (w v : List ℕ) → Continues a b x y w → Continues b c y z v → Continues a c x z (w ++ v)
 continues_then a b c x y z w v h k = record {
-  forth = λ rest script.
-      let (mid, is_mid, same) = k.forth rest script in
-      let (all, is_all, same') = h.forth mid is_mid in
+  forth = λ rest left script.
+      let (mid, is_mid, same) = k.forth rest left script in
+      let (all, is_all, same') = h.forth mid left is_mid in
       (all, is_all, same_then a b c w v all mid rest same' same);
-  back = λ all script.
-      let (mid, is_mid, same) = h.back all script in
-      let (rest, is_rest, same') = k.back mid is_mid in
+  back = λ all left script.
+      let (mid, is_mid, same) = h.back all left script in
+      let (rest, is_rest, same') = k.back mid left is_mid in
       (rest, is_rest, same_then a b c w v all mid rest same same');
 }
 
+-- the same outcomes, where the counts are the same
+same_counts : (old new : Session) (os : List Outcome) → new.statements ≡ old.statements → new.printed ≡ old.printed → new.refused ≡ old.refused → Same old new [] os os
+same_counts old new os statements printed refused = record {
+  lines = ap (λ (k : ℕ). lines k os) (sym statements);
+  statements = omega (arith, statements);
+  printed = omega (arith, printed);
+  refused = omega (arith, refused);
+}
+
 -- the pending text goes on with the byte, or the byte counts for nothing
-pub continues_text : (old new : Session) (x y : List ℕ) → new.statements ≡ old.statements → new.refused ≡ old.refused
+pub continues_text : (old new : Session) (x y : List ℕ) → new.names ≡ old.names → new.statements ≡ old.statements → new.printed ≡ old.printed → new.refused ≡ old.refused
     → old.pending ++ x ≡ new.pending ++ y → Continues old new x y []
-continues_text old new x y statements refused same = record {
-  forth = λ rest script. (rest, rw same script, record { lines = rw statements refl; refused = rw refused refl });
-  back = λ all script. (all, rw (← same) script, record { lines = rw statements refl; refused = rw refused refl });
+continues_text old new x y names statements printed refused same = record {
+  forth = λ rest left script.
+      (rest, subst (λ (n : Names). IsScript n (old.pending ++ x) rest left) names (subst (λ (l : List ℕ). IsScript new.names l rest left) (sym same) script), same_counts old new rest statements printed refused);
+  back = λ all left script.
+      (all, subst (λ (n : Names). IsScript n (new.pending ++ y) all left) (sym names) (subst (λ (l : List ℕ). IsScript old.names l all left) same script), same_counts old new all statements printed refused);
 }
 
 pub advances_nothing : (s : Session) (taken : Option (List ℕ)) (room : Option ℕ) → Advances s s taken taken room room []
 advances_nothing s taken room = record {
   written = [];
   appended = Appends-nil taken;
-  continues = λ r. continues_text s s r r refl refl refl;
+  continues = λ r. continues_text s s r r refl refl refl refl refl;
   used = λ n e fits. e ∙ ap Some (omega arith);
 }
 
@@ -67,92 +81,156 @@ advances_then a b c t t' t'' m m' m'' p q first second = record {
       last ∙ ap Some (omega (arith, length-append first.written second.written));
 }
 
+-- what is left of a piece after a first part
+leaves_then : (a b : Session) (t t' : Option (List ℕ)) (m m' : Option ℕ) (p q more : List ℕ) (names : Names) → Advances a b t t' m m' p → Leaves b q names → Leaves a (p ++ (q ++ more)) names
+leaves_then a b t t' m m' p q more names first h =
+    let back = (first.continues h.front).forth h.outcomes names h.are in
+    record {
+      front = p ++ h.front;
+      behind = h.behind ++ more;
+      outcomes = back.0;
+      parts = ap (λ (l : List ℕ). p ++ (l ++ more)) h.parts ∙ ap (λ (l : List ℕ). p ++ l) (append_assoc h.front h.behind more) ∙ sym (append_assoc p h.front (h.behind ++ more));
+      are = back.1;
+    }
+
+-- no statement was run
+pub leaves_none : (s : Session) (piece : List ℕ) (names : Names) → names ≡ s.names → Leaves s piece names
+leaves_none s piece names same = record {
+  front = [];
+  behind = piece;
+  outcomes = unfinished s.pending;
+  parts = refl;
+  are = rw (append-nil, same) (script_last s.names s.pending s.text);
+}
+
+-- a call that stopped at once
+pub stops_at_once : (old new : Session) (t : Option (List ℕ)) (piece : List ℕ) → new.names ≡ old.names → Stops old new t t piece
+stops_at_once old new t piece same = record {
+  written = [];
+  appended = Appends-nil t;
+  prefix = λ r all left script. (lines old.statements all, refl);
+  names = leaves_none old piece new.names same;
+}
+
 -- a call that stopped, after a piece
-pub stops_then : (a b : Session) (t t' t'' : Option (List ℕ)) (m m' : Option ℕ) (p q more : List ℕ)
-    → Advances a b t t' m m' p → Stops b t' t'' q → Stops a t t'' (p ++ (q ++ more))
-stops_then a b t t' t'' m m' p q more first second = record {
+pub stops_then : (a b c : Session) (t t' t'' : Option (List ℕ)) (m m' : Option ℕ) (p q more : List ℕ)
+    → Advances a b t t' m m' p → Stops b c t' t'' q → Stops a c t t'' (p ++ (q ++ more))
+stops_then a b c t t' t'' m m' p q more first second = record {
   written = first.written ++ second.written;
   appended = Appends-trans _ _ _ _ _ first.appended second.appended;
-  prefix = λ r all script.
+  prefix = λ r all left script.
       let same : (p ++ (q ++ more)) ++ r ≡ p ++ (q ++ (more ++ r)) = append_assoc p (q ++ more) r ∙ ap (λ l. p ++ l) (append_assoc q more r) in
-      let script' = subst (λ (l : List ℕ). Script a l all) same script in
-      let (rest, is_rest, whole) = (first.continues (q ++ (more ++ r))).back all script' in
-      let (left, parts) = second.prefix (more ++ r) rest is_rest in
-      (left, whole.lines ∙ ap (λ l. first.written ++ l) parts ∙ sym (append_assoc first.written second.written left));
+      let script' = subst (λ (l : List ℕ). Script a l all left) same script in
+      let (rest, is_rest, whole) = (first.continues (q ++ (more ++ r))).back all left script' in
+      let (behind, parts) = second.prefix (more ++ r) rest left is_rest in
+      (behind, whole.lines ∙ ap (λ l. first.written ++ l) parts ∙ sym (append_assoc first.written second.written behind));
+  names = leaves_then a b t t' m m' p q more c.names first second.names;
 }
 
 pub steady_then : (a b : Session) (t t' : Option (List ℕ)) (m m' : Option ℕ) (p q more : List ℕ) (result : Result Unit SessionFault)
     → Advances a b t t' m m' p → WritesIfSteady b m' q result → WritesIfSteady a m (p ++ (q ++ more)) result
 steady_then a b t t' m m' p q more result first second = record {
-  never = λ n r all room script fits.
+  never = λ n r all left room script fits.
       let same : (p ++ (q ++ more)) ++ r ≡ p ++ (q ++ (more ++ r)) = append_assoc p (q ++ more) r ∙ ap (λ l. p ++ l) (append_assoc q more r) in
-      let script' = subst (λ (l : List ℕ). Script a l all) same script in
-      let (rest, is_rest, whole) = (first.continues (q ++ (more ++ r))).back all script' in
+      let script' = subst (λ (l : List ℕ). Script a l all left) same script in
+      let (rest, is_rest, whole) = (first.continues (q ++ (more ++ r))).back all left script' in
       let sizes : length (lines a.statements all) ≡ length first.written + length (lines b.statements rest) =
       ap length whole.lines ∙ length-append first.written (lines b.statements rest) in
       let mid = first.used n room (omega arith) in
-      second.never (n - length first.written) (more ++ r) rest mid is_rest (omega arith);
+      second.never (n - length first.written) (more ++ r) rest left mid is_rest (omega arith);
 }
+
+-- the count of outcomes that pass a test, with one more in front
+count_more : (test : Outcome → Bool) (k k' : ℕ) (o p : Outcome) (all rest : List Outcome) (count : List Outcome → ℕ) → ((x : Outcome) (xs : List Outcome) → count (x ∷ xs) ≡ (if test x then 1 else 0) + count xs)
+    → all ≡ o ∷ rest → o ≡ p → k' ≡ k + (if test p then 1 else 0) → k + count all ≡ k' + count rest
+count_more test k k' o p all rest count cons e f h = rw (e, f) (omega (arith, cons p rest, h))
+
+count_by-cons-printed : (x : Outcome) (xs : List Outcome) → count_printed (x ∷ xs) ≡ (if is_printed x then 1 else 0) + count_printed xs
+count_by-cons-printed x xs = sum_by-cons (λ (o : Outcome). if is_printed o then 1 else 0) x xs
+
+count_by-cons-refused : (x : Outcome) (xs : List Outcome) → count_refused (x ∷ xs) ≡ (if is_refusal x then 1 else 0) + count_refused xs
+count_by-cons-refused x xs = sum_by-cons (λ (o : Outcome). if is_refusal o then 1 else 0) x xs
 
 lines_end : (k k' : ℕ) (o p : Outcome) (all rest : List Outcome) → all ≡ o ∷ rest → o ≡ p → k' ≡ k + 1 → lines k all ≡ line_of (k + 1) p ++ lines k' rest
 lines_end k k' o p all rest e f h = rw (e, f, h) refl
 
-refused_end : (b b' : Bool) (o p : Outcome) (all rest : List Outcome) → all ≡ o ∷ rest → o ≡ p → b' ≡ (b || is_refusal p) → (b || some_refused all) ≡ (b' || some_refused rest)
-refused_end b b' o p all rest e f h = rw (e, f, h) (sym (or_assoc b (is_refusal p) (some_refused rest)))
+length_end : (k k' : ℕ) (o : Outcome) (all rest : List Outcome) → all ≡ o ∷ rest → k' ≡ k + 1 → k + length all ≡ k' + length rest
+length_end k k' o all rest e h = rw e (omega (arith, h))
 
-pub advances_end : (old new : Session) (t t' : Option (List ℕ)) (m m' : Option ℕ) → IsText old.pending → Ends old new t t' m m' → Advances old new t t' m m' (59 ∷ [])
-advances_end old new t t' m m' text h =
-    let line = line_of (old.statements + 1) h.outcome in
-    record {
-      written = line;
-      appended = h.appended;
-      continues = λ r. record {
-        forth = λ rest script.
-            let script' : IsScript r rest = rw h.pending at script in (
-              h.outcome ∷ rest,
-              script_end old.pending r h.outcome rest text h.is script',
-              record { lines = lines_end _ _ _ _ _ rest refl refl h.statements; refused = refused_end _ _ _ _ _ rest refl refl h.refused },
-            );
-        back = λ all script.
-            let (o, rest, parts, is, script') = from_script_end old.pending r all text script in
-            let same = outcome_once old.pending o h.outcome is h.is in (
-              rest,
-              rw h.pending script',
-              record { lines = lines_end _ _ _ _ _ rest parts same h.statements; refused = refused_end _ _ _ _ _ rest parts same h.refused },
-            );
-      };
-      used = h.used;
-    }
+-- the outcomes from a statement on that has ended
+same_end : (old new : Session) (t t' : Option (List ℕ)) (m m' : Option ℕ) (h : Ends old new t t' m m') (o : Outcome) (all rest : List Outcome) → all ≡ o ∷ rest → o ≡ h.outcome
+    → Same old new (line_of (old.statements + 1) h.outcome) all rest
+same_end old new t t' m m' h o all rest parts same = record {
+  lines = lines_end old.statements new.statements o h.outcome all rest parts same h.statements;
+  statements = length_end old.statements new.statements o all rest parts h.statements;
+  printed = count_more is_printed old.printed new.printed o h.outcome all rest count_printed count_by-cons-printed parts same h.printed;
+  refused = count_more is_refusal old.refused new.refused o h.outcome all rest count_refused count_by-cons-refused parts same h.refused;
+}
 
-pub stops_end : (old : Session) (t t' : Option (List ℕ)) → IsText old.pending → EndStops old t t' → Stops old t t' (59 ∷ [])
-stops_end old t t' text h = record {
+pub advances_end : (old new : Session) (t t' : Option (List ℕ)) (m m' : Option ℕ) → Ends old new t t' m m' → Advances old new t t' m m' (59 ∷ [])
+advances_end old new t t' m m' h = record {
+  written = line_of (old.statements + 1) h.outcome;
+  appended = h.appended;
+  continues = λ r. record {
+    forth = λ rest left script.
+        let script' : IsScript new.names r rest left = rw h.pending at script in (
+          h.outcome ∷ rest,
+          script_end old.names old.pending r h.outcome new.names rest left old.text h.is script',
+          same_end old new t t' m m' h h.outcome (h.outcome ∷ rest) rest refl refl,
+        );
+    back = λ all left script.
+        let (o, next, rest, parts, is, script') = from_script_end old.names old.pending r all left old.text script in
+        let same = outcome_once old.names old.pending o h.outcome next new.names h.values is h.is in
+        let script'' : IsScript new.names r rest left = subst (λ (n : Names). IsScript n r rest left) same.1 script' in (
+          rest,
+          rw h.pending script'',
+          same_end old new t t' m m' h o all rest parts same.0,
+        );
+  };
+  used = h.used;
+}
+
+-- what a statement that stopped leaves
+leaves_end : (old new : Session) → (new.names ≡ old.names) ⊎ ((outcome : Outcome) × IsOutcome old.names old.pending outcome new.names) → Leaves old (59 ∷ []) new.names
+leaves_end old new (inl same) = leaves_none old (59 ∷ []) new.names same
+leaves_end old new (inr (outcome, is)) = record {
+  front = 59 ∷ [];
+  behind = [];
+  outcomes = outcome ∷ [];
+  parts = refl;
+  are = script_end old.names old.pending [] outcome new.names [] new.names old.text is (refl, refl);
+}
+
+pub stops_end : (old new : Session) (t t' : Option (List ℕ)) → EndStops old new t t' → Stops old new t t' (59 ∷ [])
+stops_end old new t t' h = record {
   written = h.written;
   appended = h.appended;
-  prefix = λ r all script.
-      let (o, rest, parts, is, script') = from_script_end old.pending r all text script in
-      let (more, whole) = h.prefix o is in
-      let left = lines (old.statements + 1) rest in
-      (more ++ left, ap (lines old.statements) parts ∙ ap (λ l. l ++ left) whole ∙ append_assoc h.written more left);
+  prefix = λ r all left script.
+      let (o, next, rest, parts, is, script') = from_script_end old.names old.pending r all left old.text script in
+      let (more, whole) = h.prefix o next is in
+      let behind = lines (old.statements + 1) rest in
+      (more ++ behind, ap (lines old.statements) parts ∙ ap (λ l. l ++ behind) whole ∙ append_assoc h.written more behind);
+  names = leaves_end old new h.names;
 }
 
 -- the line of the statement is a part of the transcript
-pub steady_end : (old : Session) (m : Option ℕ) (result : Result Unit SessionFault) → IsText old.pending → EndIfSteady old m result → WritesIfSteady old m (59 ∷ []) result
-steady_end old m result text h = record {
-  never = λ n r all room script fits.
-      let (o, rest, parts, is, script') = from_script_end old.pending r all text script in
+pub steady_end : (old : Session) (m : Option ℕ) (result : Result Unit SessionFault) → EndIfSteady old m result → WritesIfSteady old m (59 ∷ []) result
+steady_end old m result h = record {
+  never = λ n r all left room script fits.
+      let (o, next, rest, parts, is, script') = from_script_end old.names old.pending r all left old.text script in
       let line = line_of (old.statements + 1) o in
       let sizes : length (lines old.statements all) ≡ length line + length (lines (old.statements + 1) rest) =
       ap (λ os. length (lines old.statements os)) parts ∙ length-append line (lines (old.statements + 1) rest) in
-      h n o room is (omega arith);
+      h n o next room is (omega arith);
 }
 
 -- The byte goes on with the pending text.
-pub advances_byte : (old new : Session) (t : Option (List ℕ)) (m : Option ℕ) (c : ℕ) → new.statements ≡ old.statements
+pub advances_byte : (old new : Session) (t : Option (List ℕ)) (m : Option ℕ) (c : ℕ) → new.names ≡ old.names → new.statements ≡ old.statements → new.printed ≡ old.printed
     → new.refused ≡ old.refused → new.pending ≡ old.pending ++ c ∷ [] → Advances old new t t m m (c ∷ [])
-advances_byte old new t m c statements refused pending = record {
+advances_byte old new t m c names statements printed refused pending = record {
   written = [];
   appended = Appends-nil t;
-  continues = λ r. continues_text old new (c ∷ r) r statements refused (sym (ap (λ l. l ++ r) pending ∙ append_assoc old.pending (c ∷ []) r));
+  continues = λ r. continues_text old new (c ∷ r) r names statements printed refused (sym (ap (λ l. l ++ r) pending ∙ append_assoc old.pending (c ∷ []) r));
   used = λ n e fits. e ∙ ap Some (omega arith);
 }
 
@@ -162,12 +240,12 @@ advances_blank s t m c empty e blank = record {
   written = [];
   appended = Appends-nil t;
   continues = λ r. record {
-    forth = λ rest script.
-        let script' : IsScript r rest = rw empty at script in
-        (rest, rw empty (script_blank c r rest e blank script'), record { lines = refl; refused = refl });
-    back = λ all script.
-        let script' : IsScript (c ∷ r) all = rw empty at script in
-        (all, rw empty (from_script_blank c r all e blank script'), record { lines = refl; refused = refl });
+    forth = λ rest left script.
+        let script' : IsScript s.names r rest left = rw empty at script in
+        (rest, rw empty (script_blank s.names c r rest left e blank script'), same_counts s s rest refl refl refl);
+    back = λ all left script.
+        let script' : IsScript s.names (c ∷ r) all left = rw empty at script in
+        (all, rw empty (from_script_blank s.names c r all left e blank script'), same_counts s s all refl refl refl);
   };
   used = λ n e' fits. e' ∙ ap Some (omega arith);
 }
@@ -177,11 +255,11 @@ pub around : (xs : List ℕ) (i : ℕ) → i < length xs → take i xs ++ ((get_
 around xs i h = ap (λ l. take i xs ++ l) (sym (rw add-one (drop-cons xs i 0 h))) ∙ take-append-drop i xs
 
 -- The end of the input runs what is pending.
-pub script_rest : (s : Session) → Script s [] (last_of s)
-script_rest s = rw append-nil (script_last s.pending s.text)
+pub script_rest : (s : Session) → Script s [] (last_of s) s.names
+script_rest s = rw append-nil (script_last s.names s.pending s.text)
 
-pub from_script_rest : (s : Session) (os : List Outcome) → Script s [] os → os ≡ last_of s
-from_script_rest s os script = from_script_last s.pending os s.text (rw append-nil at script)
+pub from_script_rest : (s : Session) (os : List Outcome) (left : Names) → Script s [] os left → (os ≡ last_of s) × (left ≡ s.names)
+from_script_rest s os left script = from_script_last s.names s.pending os left s.text (rw append-nil at script)
 
 pub no_last : (s : Session) → (length s.pending == 0) ≡ true → last_of s ≡ []
 no_last s h = ap unfinished (nil_from_length s.pending (eqb-true _ _ h))
@@ -196,9 +274,26 @@ last_some s h = unfinished_some s.pending h
 pub last_line : (s : Session) → (length s.pending == 0) ≡ false → lines s.statements (last_of s) ≡ line_of (s.statements + 1) (Refused (unfinished_refusal s.pending))
 last_line s h = ap (lines s.statements) (last_some s h) ∙ append-nil (line_of (s.statements + 1) (Refused (unfinished_refusal s.pending)))
 
-pub or_true : (b : Bool) → (b || true) ≡ true
-or_true true = refl
-or_true false = refl
+-- nothing was pending
+pub finishes_none : (s : Session) (t : Option (List ℕ)) → (length s.pending == 0) ≡ true → Finishes s s t t
+finishes_none s t h = record {
+  appended = rw (no_last s h) (Appends-nil t);
+  names = script_rest s;
+  statements = rw (no_last s h) (omega arith);
+  printed = rw (no_last s h) (omega arith);
+  refused = rw (no_last s h) (omega arith);
+}
+
+-- a text was pending, and its refusal was told
+pub finishes_some : (old new : Session) (t t' : Option (List ℕ)) → (length old.pending == 0) ≡ false → Appends t t' (lines old.statements (last_of old))
+    → new.names ≡ old.names → new.statements ≡ old.statements + 1 → new.printed ≡ old.printed → new.refused ≡ old.refused + 1 → Finishes old new t t'
+finishes_some old new t t' h appended names statements printed refused = record {
+  appended = appended;
+  names = subst (λ (n : Names). Script old [] (last_of old) n) (sym names) (script_rest old);
+  statements = statements ∙ ap (λ (os : List Outcome). old.statements + length os) (sym (last_some old h));
+  printed = rw (last_some old h) (omega (arith, printed));
+  refused = refused ∙ ap (λ (os : List Outcome). old.refused + count_refused os) (sym (last_some old h));
+}
 
 -- a send that fails does not meet a steady sink with room
 pub never_fails : (m m' : Option ℕ) (sent whole : List ℕ) (x : Failed) → sent ≡ whole → SendsSteadily m m' (length sent) (Err x)
@@ -209,22 +304,21 @@ never_fails m m' sent whole x same sends n room fits =
     absurd (cc)
 
 -- A whole input was fed, and then the end.
-pub runs_whole : (a b : Session) (t t' t'' : Option (List ℕ)) (m m' : Option ℕ) (bytes : List ℕ) (refuses : Bool) → Advances a b t t' m m' bytes
-    → Appends t' t'' (lines b.statements (last_of b)) → refuses ≡ (b.refused || some_refused (last_of b)) → Runs a refuses bytes t t''
-runs_whole a b t t' t'' m m' bytes refuses first appended refused =
-    let (all, script, same) = (first.continues []).forth (last_of b) (script_rest b) in
+pub runs_whole : (a b c : Session) (t t' t'' : Option (List ℕ)) (m m' : Option ℕ) (bytes : List ℕ) → Advances a b t t' m m' bytes → Finishes b c t' t'' → Runs a c bytes t t''
+runs_whole a b c t t' t'' m m' bytes first last =
+    let (all, script, same) = (first.continues []).forth (last_of b) c.names last.names in
     record {
       outcomes = all;
-      are = subst (λ (l : List ℕ). Script a l all) (append-nil bytes) script;
-      appended = subst (λ (l : List ℕ). Appends t t'' l) (sym same.lines) (Appends-trans _ _ _ _ _ first.appended appended);
-      refused = refused ∙ sym same.refused;
+      are = subst (λ (l : List ℕ). Script a l all c.names) (append-nil bytes) script;
+      appended = subst (λ (l : List ℕ). Appends t t'' l) (sym same.lines) (Appends-trans _ _ _ _ _ first.appended last.appended);
+      refused = last.refused ∙ sym same.refused;
     }
 
-pub stops_whole : (s : Session) (t t' : Option (List ℕ)) (bytes : List ℕ) → Stops s t t' bytes → StopsWhole s bytes t t'
-stops_whole s t t' bytes h = record {
+pub stops_whole : (s new : Session) (t t' : Option (List ℕ)) (bytes : List ℕ) → Stops s new t t' bytes → StopsWhole s bytes t t'
+stops_whole s new t t' bytes h = record {
   written = h.written;
   appended = h.appended;
-  prefix = λ all script. h.prefix [] all (rw append-nil script);
+  prefix = λ all left script. h.prefix [] all left (rw append-nil script);
 }
 
 pub stops_at_end : (a b : Session) (t t' t'' : Option (List ℕ)) (m m' : Option ℕ) (bytes : List ℕ)
@@ -232,20 +326,20 @@ pub stops_at_end : (a b : Session) (t t' t'' : Option (List ℕ)) (m m' : Option
 stops_at_end a b t t' t'' m m' bytes first (front, appended, (more, whole)) = record {
   written = first.written ++ front;
   appended = Appends-trans _ _ _ _ _ first.appended appended;
-  prefix = λ all script.
-      let (rest, script', same) = (first.continues []).back all (rw append-nil script) in (
+  prefix = λ all left script.
+      let (rest, script', same) = (first.continues []).back all left (rw append-nil script) in (
         more,
-        same.lines ∙ ap (λ os. first.written ++ lines b.statements os) (from_script_rest b rest script') ∙ ap (λ l. first.written ++ l) whole
+        same.lines ∙ ap (λ os. first.written ++ lines b.statements os) (from_script_rest b rest left script').0 ∙ ap (λ l. first.written ++ l) whole
             ∙ sym (append_assoc first.written front more),
       );
 }
 
 -- the room that is left after a whole input is enough for its end
-pub room_at_end : (a b : Session) (t t' : Option (List ℕ)) (m m' : Option ℕ) (bytes : List ℕ) (all : List Outcome) → Advances a b t t' m m' bytes
-    → Script a bytes all → (n : ℕ) → m ≡ Some n → length (lines a.statements all) ≤ n → (k : ℕ) × (m' ≡ Some k) × (length (lines b.statements (last_of b)) ≤ k)
-room_at_end a b t t' m m' bytes all first script n room fits =
-    let (rest, script', same) = (first.continues []).back all (rw append-nil script) in
+pub room_at_end : (a b : Session) (t t' : Option (List ℕ)) (m m' : Option ℕ) (bytes : List ℕ) (all : List Outcome) (left : Names) → Advances a b t t' m m' bytes
+    → Script a bytes all left → (n : ℕ) → m ≡ Some n → length (lines a.statements all) ≤ n → (k : ℕ) × (m' ≡ Some k) × (length (lines b.statements (last_of b)) ≤ k)
+room_at_end a b t t' m m' bytes all left first script n room fits =
+    let (rest, script', same) = (first.continues []).back all left (rw append-nil script) in
     let sizes : length (lines a.statements all) ≡ length first.written + length (lines b.statements (last_of b)) =
-    ap length (same.lines ∙ ap (λ os. first.written ++ lines b.statements os) (from_script_rest b rest script'))
+    ap length (same.lines ∙ ap (λ os. first.written ++ lines b.statements os) (from_script_rest b rest left script').0)
     ∙ length-append first.written (lines b.statements (last_of b)) in
     (n - length first.written, first.used n room (omega arith), omega arith)

@@ -2,9 +2,10 @@
 use Rattle.std.proofs.Common.{◌≡◌, ℕ, List, [], ◌∷◌, ◌++◌, true, false, cond, refl}
 use Rattle.std.specs.List.{slice_split, onto_first}
 use Rattle.std.proofs.lemmas.List.Splits.{slice_split_none, slice_split_at}
-use Rattle.hopf.specs.declared.statement.Outcome.{Outcome}
-use Rattle.hopf.specs.Outcomes.{IsOutcome}
 use Rattle.session_lang.specs.Tokens.{is_blank}
+use Rattle.hopf.specs.declared.statement.Outcome.{Outcome}
+use Rattle.hopf.specs.Names.{Names}
+use Rattle.hopf.specs.Outcomes.{IsOutcome}
 use Rattle.hopf.specs.Transcript.{is_end, trimmed, unfinished, is_none, AreOutcomes, IsScript, starts_blank, IsText}
 
 pub trimmed_text : (text : List ℕ) → starts_blank text ≡ false → trimmed text ≡ text
@@ -22,34 +23,34 @@ slice_split-some (c ∷ bytes) =
     [ true ↦ refl | false ↦ onto_first-some c (slice_split is_end bytes) ]
 
 -- a `;` ends the text
-pub script_end : (text r : List ℕ) (o : Outcome) (rest : List Outcome) → IsText text → IsOutcome text o
-    → IsScript r rest → IsScript (text ++ 59 ∷ r) (o ∷ rest)
-script_end text r o rest h is script =
-    rw (slice_split_at is_end text 59 r h.no_end refl, slice_split-some r, trimmed_text text h.no_blank) (o, rest, refl, is, script)
+pub script_end : (names : Names) (text r : List ℕ) (o : Outcome) (next : Names) (rest : List Outcome) (left : Names) → IsText text → IsOutcome names text o next
+    → IsScript next r rest left → IsScript names (text ++ 59 ∷ r) (o ∷ rest) left
+script_end names text r o next rest left h is script =
+    rw (slice_split_at is_end text 59 r h.no_end refl, slice_split-some r, trimmed_text text h.no_blank) (o, next, rest, refl, is, script)
 
-pub from_script_end : (text r : List ℕ) (all : List Outcome) → IsText text → IsScript (text ++ 59 ∷ r) all
-    → (o : Outcome) × (rest : List Outcome) × (all ≡ o ∷ rest) × IsOutcome text o × IsScript r rest
-from_script_end text r all h script =
+pub from_script_end : (names : Names) (text r : List ℕ) (all : List Outcome) (left : Names) → IsText text → IsScript names (text ++ 59 ∷ r) all left
+    → (o : Outcome) × (next : Names) × (rest : List Outcome) × (all ≡ o ∷ rest) × IsOutcome names text o next × IsScript next r rest left
+from_script_end names text r all left h script =
     rw (slice_split_at is_end text 59 r h.no_end refl, slice_split-some r, trimmed_text text h.no_blank) at script
 
-onto_blank : (c : ℕ) (parts : List (List ℕ)) (os : List Outcome) → is_blank c ≡ true → AreOutcomes parts os → AreOutcomes (onto_first c parts) os
-onto_blank c [] os h k = rw h k
-onto_blank c (part ∷ parts) os h k = rw h k
+onto_blank : (names : Names) (c : ℕ) (parts : List (List ℕ)) (os : List Outcome) (left : Names) → is_blank c ≡ true → AreOutcomes names parts os left → AreOutcomes names (onto_first c parts) os left
+onto_blank names c [] os left h k = rw h k
+onto_blank names c (part ∷ parts) os left h k = rw h k
 
-from_onto_blank : (c : ℕ) (parts : List (List ℕ)) (os : List Outcome) → is_blank c ≡ true → AreOutcomes (onto_first c parts) os → AreOutcomes parts os
-from_onto_blank c [] os h k = rw h at k
-from_onto_blank c (part ∷ parts) os h k = rw h at k
+from_onto_blank : (names : Names) (c : ℕ) (parts : List (List ℕ)) (os : List Outcome) (left : Names) → is_blank c ≡ true → AreOutcomes names (onto_first c parts) os left → AreOutcomes names parts os left
+from_onto_blank names c [] os left h k = rw h at k
+from_onto_blank names c (part ∷ parts) os left h k = rw h at k
 
 -- a blank before a text counts for nothing
-pub script_blank : (c : ℕ) (r : List ℕ) (os : List Outcome) → is_end c ≡ false → is_blank c ≡ true → IsScript r os → IsScript (c ∷ r) os
-script_blank c r os e h k = rw e (onto_blank c (slice_split is_end r) os h k)
+pub script_blank : (names : Names) (c : ℕ) (r : List ℕ) (os : List Outcome) (left : Names) → is_end c ≡ false → is_blank c ≡ true → IsScript names r os left → IsScript names (c ∷ r) os left
+script_blank names c r os left e h k = rw e (onto_blank names c (slice_split is_end r) os left h k)
 
-pub from_script_blank : (c : ℕ) (r : List ℕ) (os : List Outcome) → is_end c ≡ false → is_blank c ≡ true → IsScript (c ∷ r) os → IsScript r os
-from_script_blank c r os e h k = from_onto_blank c (slice_split is_end r) os h (rw e at k)
+pub from_script_blank : (names : Names) (c : ℕ) (r : List ℕ) (os : List Outcome) (left : Names) → is_end c ≡ false → is_blank c ≡ true → IsScript names (c ∷ r) os left → IsScript names r os left
+from_script_blank names c r os left e h k = from_onto_blank names c (slice_split is_end r) os left h (rw e at k)
 
 -- the input ends in this text
-pub script_last : (text : List ℕ) → IsText text → IsScript text (unfinished text)
-script_last text h = rw (slice_split_none is_end text h.no_end, trimmed_text text h.no_blank) refl
+pub script_last : (names : Names) (text : List ℕ) → IsText text → IsScript names text (unfinished text) names
+script_last names text h = rw (slice_split_none is_end text h.no_end, trimmed_text text h.no_blank) (refl, refl)
 
-pub from_script_last : (text : List ℕ) (os : List Outcome) → IsText text → IsScript text os → os ≡ unfinished text
-from_script_last text os h k = rw (slice_split_none is_end text h.no_end, trimmed_text text h.no_blank) at k
+pub from_script_last : (names : Names) (text : List ℕ) (os : List Outcome) (left : Names) → IsText text → IsScript names text os left → (os ≡ unfinished text) × (left ≡ names)
+from_script_last names text os left h k = rw (slice_split_none is_end text h.no_end, trimmed_text text h.no_blank) at k

@@ -38,7 +38,9 @@ abbrev pub number_of : StatementRefusal → ℕ
 number_of refusal.TooLong = 1
 number_of refusal.Unfinished = 2
 number_of (refusal.Grammar f) = number_of_fault f
+number_of (refusal.UnknownName name) = 8
 number_of (refusal.Value r) = number_of_value r
+number_of refusal.TooManyNames = 19
 
 -- the texts of refusals
 abbrev pub text_of_fault : GrammarFault → List ℕ
@@ -64,7 +66,9 @@ abbrev pub text_of : StatementRefusal → List ℕ
 text_of refusal.TooLong = codes "statement is longer than 65536 bytes"
 text_of refusal.Unfinished = codes "statement has no semicolon"
 text_of (refusal.Grammar f) = text_of_fault f
+text_of (refusal.UnknownName name) = codes "unknown name " ++ name
 text_of (refusal.Value r) = text_of_value r
+text_of refusal.TooManyNames = codes "more than 256 names"
 
 -- the line of a refusal in the statement with this number
 abbrev pub refusal_line : ℕ → StatementRefusal → List ℕ

@@ -1,27 +1,61 @@
 -- What a session does to its state and to its output.
-use Rattle.std.specs.Prelude.{◌≡◌, ℕ, ◌+◌, ◌-◌, [], ◌≤◌, List, ◌++◌, length, Bool, ◌||◌, Option, Some, Result, IsErrOf, OnOk}
+use Rattle.std.specs.Prelude.{◌≡◌, ◌≢◌, ℕ, ◌+◌, ◌-◌, [], ◌≤◌, ◌⊎◌, List, ◌++◌, length, if◌then◌else◌, Option, Some, Result, IsErrOf, OnOk}
 use Rattle.std.specs.Io.KnownBytes.{Appends}
+use Rattle.basis_routes.specs.declared.refusal.Refusal.TheVariants as value
 use Rattle.hopf_io.specs.Prefixes.{IsPrefix}
+use Rattle.session_lang.specs.declared.fault.GrammarFault.TheVariants as fault
+use Rattle.hopf.specs.declared.refusal.StatementRefusal.TheVariants as refusal
 use Rattle.hopf.specs.declared.statement.Outcome.{Outcome}
+use Rattle.hopf.specs.declared.statement.Outcome.TheVariants.{Refused}
 use Rattle.hopf.specs.declared.session.Session.{Session}
 use Rattle.hopf.specs.declared.session.SessionFault.{SessionFault}
 use Rattle.hopf.specs.declared.session.SessionFault.TheVariants.{Write}
-use Rattle.hopf.specs.Outcomes.{IsOutcome, line_of, is_refusal}
-use Rattle.hopf.specs.Transcript.{IsScript, lines, some_refused, unfinished}
+use Rattle.hopf.specs.Names.{Names, AreValues}
+use Rattle.hopf.specs.Outcomes.{IsOutcome, line_of, is_printed, is_refusal}
+use Rattle.hopf.specs.Transcript.{IsScript, lines, count_printed, count_refused, unfinished}
 
--- the outcomes of the statements of the pending text followed by the bytes
-abbrev pub Script : Session → List ℕ → List Outcome → Type 0
-Script session bytes os = IsScript (session.pending ++ bytes) os
+-- One statement.
 
--- the lines of all are what was written and the lines of rest, and as much is refused
+-- no statement whose `;` came has this outcome: the text was ended, and want of memory is no refusal
+pub record IsTold (outcome : Outcome) : Type 0 where
+  pub ended : outcome ≢ Refused refusal.Unfinished
+  pub read : outcome ≢ Refused (refusal.Grammar fault.Memory)
+  pub evaluated : outcome ≢ Refused (refusal.Value value.Memory)
+
+-- the names aside, the session is as it was
+pub record KeepsAllButNames (old new : Session) : Type 0 where
+  pub statements : new.statements ≡ old.statements
+  pub printed : new.printed ≡ old.printed
+  pub refused : new.refused ≡ old.refused
+  pub pending : new.pending ≡ old.pending
+  pub ended : new.ended ≡ old.ended
+
+-- a statement with this outcome was counted, and nothing else changed
+pub record Counted (old new : Session) (outcome : Outcome) : Type 0 where
+  pub names : new.names ≡ old.names
+  pub statements : new.statements ≡ old.statements + 1
+  pub printed : new.printed ≡ old.printed + (if is_printed outcome then 1 else 0)
+  pub refused : new.refused ≡ old.refused + (if is_refusal outcome then 1 else 0)
+  pub pending : new.pending ≡ old.pending
+  pub ended : new.ended ≡ old.ended
+
+-- Pieces of the input.
+
+-- the outcomes of the statements of the pending text followed by the bytes, and the names that they leave
+abbrev pub Script : Session → List ℕ → List Outcome → Names → Type 0
+Script session bytes os left = IsScript session.names (session.pending ++ bytes) os left
+
+-- the lines of all are what was written and the lines of rest, and the counts are those of rest more
 pub record Same (old new : Session) (written : List ℕ) (all rest : List Outcome) : Type 0 where
   pub lines : lines old.statements all ≡ written ++ lines new.statements rest
-  pub refused : (old.refused || some_refused all) ≡ (new.refused || some_refused rest)
+  pub statements : old.statements + length all ≡ new.statements + length rest
+  pub printed : old.printed + count_printed all ≡ new.printed + count_printed rest
+  pub refused : old.refused + count_refused all ≡ new.refused + count_refused rest
 
--- what old prints for x is what was written, followed by what new prints for y
+-- what old prints for x is what was written, followed by what new prints for y; and both leave the same names
 pub record Continues (old new : Session) (x y : List ℕ) (written : List ℕ) : Type 0 where
-  pub forth : (rest : List Outcome) → Script new y rest → (all : List Outcome) × Script old x all × Same old new written all rest
-  pub back : (all : List Outcome) → Script old x all → (rest : List Outcome) × Script new y rest × Same old new written all rest
+  pub forth : (rest : List Outcome) (left : Names) → Script new y rest left → (all : List Outcome) × Script old x all left × Same old new written all rest
+  pub back : (all : List Outcome) (left : Names) → Script old x all left → (rest : List Outcome) × Script new y rest left × Same old new written all rest
 
 -- from old to new the session ran the piece: whatever bytes follow, it wrote what they leave to new of the transcript
 pub record Advances (old new : Session) (taken taken' : Option (List ℕ)) (room room' : Option ℕ) (piece : List ℕ) : Type 0 where
@@ -30,55 +64,81 @@ pub record Advances (old new : Session) (taken taken' : Option (List ℕ)) (room
   pub continues : (r : List ℕ) → Continues old new (piece ++ r) r written
   pub used : (n : ℕ) → room ≡ Some n → length written ≤ n → room' ≡ Some (n - length written)
 
+-- the names are those that the statements of a front of the piece leave
+pub record Leaves (old : Session) (piece : List ℕ) (names : Names) : Type 0 where
+  pub front : List ℕ
+  pub behind : List ℕ
+  pub outcomes : List Outcome
+  pub parts : piece ≡ front ++ behind
+  pub are : Script old front outcomes names
+
 -- it stopped: whatever bytes follow, it wrote a prefix of the transcript
-pub record Stops (old : Session) (taken taken' : Option (List ℕ)) (piece : List ℕ) : Type 0 where
+pub record Stops (old new : Session) (taken taken' : Option (List ℕ)) (piece : List ℕ) : Type 0 where
   pub written : List ℕ
   pub appended : Appends taken taken' written
-  pub prefix : (r : List ℕ) (all : List Outcome) → Script old (piece ++ r) all → IsPrefix written (lines old.statements all)
+  pub prefix : (r : List ℕ) (all : List Outcome) (left : Names) → Script old (piece ++ r) all left → IsPrefix written (lines old.statements all)
+  pub names : Leaves old piece new.names
 
 -- on a steady sink that has room for the transcript, for some bytes that follow, no write fails
 pub record WritesIfSteady (old : Session) (room : Option ℕ) (piece : List ℕ) (result : Result Unit SessionFault) : Type 0 where
-  pub never : (n : ℕ) (r : List ℕ) (all : List Outcome) → room ≡ Some n → Script old (piece ++ r) all
+  pub never : (n : ℕ) (r : List ℕ) (all : List Outcome) (left : Names) → room ≡ Some n → Script old (piece ++ r) all left
       → length (lines old.statements all) ≤ n → IsErrOf result Write → ⊥
+
+-- The end of a statement.
 
 -- the pending text was run
 pub record Ends (old new : Session) (taken taken' : Option (List ℕ)) (room room' : Option ℕ) : Type 0 where
+  pub values : AreValues old.names
   pub outcome : Outcome
-  pub is : IsOutcome old.pending outcome
+  pub is : IsOutcome old.names old.pending outcome new.names
   pub statements : new.statements ≡ old.statements + 1
+  pub printed : new.printed ≡ old.printed + (if is_printed outcome then 1 else 0)
+  pub refused : new.refused ≡ old.refused + (if is_refusal outcome then 1 else 0)
   pub pending : new.pending ≡ []
-  pub refused : new.refused ≡ (old.refused || is_refusal outcome)
   pub appended : Appends taken taken' (line_of (old.statements + 1) outcome)
   pub used : (n : ℕ) → room ≡ Some n → length (line_of (old.statements + 1) outcome) ≤ n → room' ≡ Some (n - length (line_of (old.statements + 1) outcome))
 
--- it was not wholly run: a prefix of its line was written
-pub record EndStops (old : Session) (taken taken' : Option (List ℕ)) : Type 0 where
+-- it was not wholly run: a prefix of its line was written, and it was run on the names or not
+pub record EndStops (old new : Session) (taken taken' : Option (List ℕ)) : Type 0 where
   pub written : List ℕ
   pub appended : Appends taken taken' written
-  pub prefix : (outcome : Outcome) → IsOutcome old.pending outcome → IsPrefix written (line_of (old.statements + 1) outcome)
+  pub prefix : (outcome : Outcome) (left : Names) → IsOutcome old.names old.pending outcome left → IsPrefix written (line_of (old.statements + 1) outcome)
+  pub names : (new.names ≡ old.names) ⊎ ((outcome : Outcome) × IsOutcome old.names old.pending outcome new.names)
 
 -- on a steady sink that has room for its line, no write fails
 abbrev pub EndIfSteady : Session → Option ℕ → Result Unit SessionFault → Type 0
-EndIfSteady old room result = (n : ℕ) (outcome : Outcome) → room ≡ Some n → IsOutcome old.pending outcome
+EndIfSteady old room result = (n : ℕ) (outcome : Outcome) (left : Names) → room ≡ Some n → IsOutcome old.names old.pending outcome left
     → length (line_of (old.statements + 1) outcome) ≤ n → IsErrOf result Write → ⊥
+
+-- The end of the input.
 
 -- the outcomes of what is pending where the input ends
 abbrev pub last_of : Session → List Outcome
 last_of s = unfinished s.pending
 
+-- the pending text was run as the last one: it leaves the names
+pub record Finishes (old new : Session) (taken taken' : Option (List ℕ)) : Type 0 where
+  pub appended : Appends taken taken' (lines old.statements (last_of old))
+  pub names : Script old [] (last_of old) new.names
+  pub statements : new.statements ≡ old.statements + length (last_of old)
+  pub printed : new.printed ≡ old.printed + count_printed (last_of old)
+  pub refused : new.refused ≡ old.refused + count_refused (last_of old)
+
 -- on a steady sink that has room for this many bytes no write fails, and they use the room
 abbrev pub WritesLast : Option ℕ → Option ℕ → ℕ → Result Unit SessionFault → Type 0
 WritesLast room room' count result = (n : ℕ) → room ≡ Some n → count ≤ n → (IsErrOf result Write → ⊥) × OnOk result (room' ≡ Some (n - count))
 
--- a whole input was run
-pub record Runs (old : Session) (refuses : Bool) (bytes : List ℕ) (taken taken' : Option (List ℕ)) : Type 0 where
+-- A whole input.
+
+-- it was run
+pub record Runs (old new : Session) (bytes : List ℕ) (taken taken' : Option (List ℕ)) : Type 0 where
   pub outcomes : List Outcome
-  pub are : Script old bytes outcomes
+  pub are : Script old bytes outcomes new.names
   pub appended : Appends taken taken' (lines old.statements outcomes)
-  pub refused : refuses ≡ (old.refused || some_refused outcomes)
+  pub refused : new.refused ≡ old.refused + count_refused outcomes
 
 -- it was not wholly run: what was written is a prefix of each transcript that it has
 pub record StopsWhole (old : Session) (bytes : List ℕ) (taken taken' : Option (List ℕ)) : Type 0 where
   pub written : List ℕ
   pub appended : Appends taken taken' written
-  pub prefix : (all : List Outcome) → Script old bytes all → IsPrefix written (lines old.statements all)
+  pub prefix : (all : List Outcome) (left : Names) → Script old bytes all left → IsPrefix written (lines old.statements all)

@@ -1,11 +1,12 @@
 -- The statements of a list of bytes, and the lines that they print.
 use Rattle.std.specs.Prelude.{◌≡◌, ℕ, ◌+◌, ◌==◌, List, [], ◌∷◌, ◌++◌, Bool, true, false, if◌then◌else◌, All, MatchBool, nat_lt, length}
-use Rattle.std.specs.List.{slice_split, list_any}
+use Rattle.std.specs.List.{slice_split, list_any, count_by}
 use Rattle.hopf.specs.declared.statement.Outcome.{Outcome}
 use Rattle.hopf.specs.declared.statement.Outcome.TheVariants.{Refused}
 use Rattle.hopf.specs.declared.refusal.StatementRefusal.{StatementRefusal}
 use Rattle.hopf.specs.declared.refusal.StatementRefusal.TheVariants.{TooLong, Unfinished}
-use Rattle.hopf.specs.Outcomes.{IsOutcome, line_of, is_refusal}
+use Rattle.hopf.specs.Names.{Names}
+use Rattle.hopf.specs.Outcomes.{IsOutcome, line_of, is_printed, is_refusal}
 use Rattle.session_lang.specs.Tokens.{is_blank}
 
 -- `;` ends a statement
@@ -31,20 +32,27 @@ abbrev pub is_none : List (List ℕ) → Bool
 is_none [] = true
 is_none (part ∷ parts) = false
 
--- the outcomes of the statements whose texts these parts are, in order; the last part has no `;`
-abbrev pub AreOutcomes : List (List ℕ) → List Outcome → Type 0
-AreOutcomes [] os = os ≡ []
-AreOutcomes (part ∷ parts) os = MatchBool (is_none parts) (os ≡ unfinished (trimmed part))
-    ((outcome : Outcome) × (rest : List Outcome) × (os ≡ outcome ∷ rest) × IsOutcome (trimmed part) outcome × AreOutcomes parts rest)
+-- the outcomes, in order, of the statements whose texts these parts are, and the names that they leave; the last part has no `;`
+abbrev pub AreOutcomes : Names → List (List ℕ) → List Outcome → Names → Type 0
+AreOutcomes names [] os left = (os ≡ []) × (left ≡ names)
+AreOutcomes names (part ∷ parts) os left = MatchBool (is_none parts) ((os ≡ unfinished (trimmed part)) × (left ≡ names))
+    ((outcome : Outcome) × (next : Names) × (rest : List Outcome) × (os ≡ outcome ∷ rest) × IsOutcome names (trimmed part) outcome next × AreOutcomes next parts rest left)
 
--- the outcomes of the statements of the bytes: the stretches between the bytes `;`, and the rest
-abbrev pub IsScript : List ℕ → List Outcome → Type 0
-IsScript bytes os = AreOutcomes (slice_split is_end bytes) os
+-- the outcomes of the statements of the bytes, which are the stretches between the bytes `;` and the rest, and the names that they leave
+abbrev pub IsScript : Names → List ℕ → List Outcome → Names → Type 0
+IsScript names bytes os left = AreOutcomes names (slice_split is_end bytes) os left
 
 -- the lines of these outcomes after k statements: the transcript
 abbrev pub lines : ℕ → List Outcome → List ℕ
 lines k [] = []
 lines k (outcome ∷ rest) = line_of (k + 1) outcome ++ lines (k + 1) rest
+
+-- how many of the outcomes are printed values, and how many refusals
+abbrev pub count_printed : List Outcome → ℕ
+count_printed outcomes = count_by is_printed outcomes
+
+abbrev pub count_refused : List Outcome → ℕ
+count_refused outcomes = count_by is_refusal outcomes
 
 -- one of the outcomes is a refusal
 abbrev pub some_refused : List Outcome → Bool

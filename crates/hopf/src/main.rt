@@ -1,7 +1,10 @@
 //! `hopf`: reads a session of statements, and prints a line for each value and each refusal.
 #![tactic(auto)]
 
+mod evaluation;
 mod laws;
+mod names;
+mod operator;
 mod reading;
 mod refusal;
 mod run;

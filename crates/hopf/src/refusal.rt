@@ -6,7 +6,7 @@ use basis_routes::Refusal;
 use hopf_io::Bytes;
 use hopf_laws::AlgebraId;
 use hopf_num::OutOfMemory;
-use session_lang::GrammarFault;
+use session_lang::{GrammarFault, Name};
 use std::alloc::Global;
 
 /// Why a statement is refused.
@@ -18,8 +18,12 @@ pub enum StatementRefusal {
     Unfinished,
     /// It is no statement that can be evaluated.
     Grammar(GrammarFault),
+    /// A name has no value: no assignment to it was accepted before.
+    UnknownName(Name),
     /// An operation has no value.
     Value(Refusal),
+    /// An assignment would give a 257th name.
+    TooManyNames,
 }
 
 // The name of an algebra.
@@ -70,7 +74,9 @@ fn number(refusal: &StatementRefusal) -> u32
         StatementRefusal::TooLong => 1,
         StatementRefusal::Unfinished => 2,
         StatementRefusal::Grammar(fault) => fault_number(fault),
+        StatementRefusal::UnknownName(_) => 8,
         StatementRefusal::Value(refusal) => value_number(*refusal),
+        StatementRefusal::TooManyNames => 19,
     }
 }
 
@@ -137,7 +143,9 @@ fn push_text(alloc: Global, refusal: &StatementRefusal, out: &mut Bytes) -> Resu
         StatementRefusal::TooLong => out.push_all(b"statement is longer than 65536 bytes"),
         StatementRefusal::Unfinished => out.push_all(b"statement has no semicolon"),
         StatementRefusal::Grammar(fault) => push_fault(alloc, fault, out),
+        StatementRefusal::UnknownName(name) => push_both(b"unknown name ", name.as_slice(), out),
         StatementRefusal::Value(refusal) => push_value(alloc, *refusal, out),
+        StatementRefusal::TooManyNames => out.push_all(b"more than 256 names"),
     }
 }
 

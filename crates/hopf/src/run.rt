@@ -40,9 +40,10 @@ fn run_session<I: Source, O: Sink>(alloc: Global, input: &mut I, out: &mut O) ->
         return match fault {
             SessionFault::Write => Status::WriteFault,
             SessionFault::Memory => Status::Memory,
+            SessionFault::Ended => unreachable!(),
         };
     }
-    if session.has_refused() {
+    if session.count().refused > 0 {
         Status::Refused
     } else {
         Status::Ok

@@ -1,17 +1,20 @@
 //! What a statement comes to, and its line.
-ghost use Rattle.std.specs.Prelude.{◌≡◌, ◌≢◌, false, IfOk};
-ghost use Rattle.hopf.specs.Outcomes.{element_value, IsPrinted, IsEvaluated, IsOutcomeOf, IsOutcome, printed_product, line_of as line_of_outcome};
+ghost use Rattle.std.specs.Prelude.{◌≡◌, OnErr, IfOk};
+ghost use Rattle.hopf.specs.Built.{IsBuilt, IsBuiltStatement};
+ghost use Rattle.hopf_laws.specs.Values.{IsValue};
+ghost use Rattle.hopf.specs.Evaluation.{Evaluates};
+ghost use Rattle.hopf.specs.Names.{AreValues};
+ghost use Rattle.hopf.specs.Outcomes.{Keeps, IsOutcomeOf, IsOutcome, line_of as line_of_outcome};
+ghost use Rattle.hopf.specs.Sessions.{IsTold};
 ghost use Rattle.hopf.specs.Transcript.{unfinished_refusal};
-ghost use Rattle.basis_routes.specs.Rules.{IsIndexWithin};
 
+use crate::evaluation::value_of;
+use crate::names::Names;
 use crate::refusal::{StatementRefusal, line_of_refusal};
-use basis_routes::{Refusal, Value, is_index};
+use basis_routes::{Refusal, Value};
 use hopf_io::Bytes;
-use hopf_laws::BasisId;
 use hopf_num::OutOfMemory;
-use hopf_ops::times;
-use linear_combos::Code;
-use session_lang::{Expr, Factor, GrammarFault, Statement, parse, print_value};
+use session_lang::{Expr, GrammarFault, Name, Statement, parse, print_value};
 use std::alloc::Global;
 
 /// The most bytes of the text of a statement.
@@ -22,22 +25,18 @@ pub const TEXT_LIMIT: usize = 65_536;
 pub enum Outcome {
     /// The empty statement prints nothing.
     Empty,
+    /// An assignment gave its name a value, and prints nothing.
+    Kept,
     /// It prints this text.
     Printed(Bytes),
-    /// It is refused.
+    /// It is refused, and changed nothing.
     Refused(StatementRefusal),
 }
 
-// The form is not built yet.
-fn not_built() -> Outcome
-    ensures { result ≡ Outcome.Refused (StatementRefusal.Grammar GrammarFault.NotBuilt) }
-{
-    Outcome::Refused(StatementRefusal::Grammar(GrammarFault::NotBuilt))
-}
-
 // The outcome of a fault of the grammar; want of memory is none.
-fn refused(fault: GrammarFault) -> Result<Outcome, OutOfMemory>
-    ensures { IfOk result (λ outcome. (fault ≢ GrammarFault.Memory) × (outcome ≡ Outcome.Refused (StatementRefusal.Grammar fault))) }
+fn outcome_of_fault(fault: GrammarFault) -> Result<Outcome, OutOfMemory>
+    ensures fault { IfOk result (λ outcome. outcome ≡ Outcome.Refused (StatementRefusal.Grammar fault)) }
+    ensures told { IfOk result IsTold }
 {
     match fault {
         GrammarFault::Memory => Err(OutOfMemory),
@@ -45,116 +44,110 @@ fn refused(fault: GrammarFault) -> Result<Outcome, OutOfMemory>
     }
 }
 
-// The outcome of a value, or of its refusal.
-fn printed(alloc: Global, value: Result<Value, Refusal>) -> Result<Outcome, OutOfMemory>
-    ensures { IfOk result (IsPrinted value) }
+// The value of an expression, or its refusal; want of memory is none.
+fn evaluated(
+    alloc: Global,
+    names: &Names,
+    x: &Expr,
+) -> Result<Result<Value, StatementRefusal>, OutOfMemory>
+    requires { IsBuilt x.now }
+    ensures { IfOk result (Evaluates names.now x.now) }
 {
-    match value {
+    match value_of(alloc, names, x) {
+        Err(StatementRefusal::Value(Refusal::Memory)) => Err(OutOfMemory),
+        answer => Ok(answer),
+    }
+}
+
+// The outcome of a sum that is to be printed.
+fn outcome_of_print(alloc: Global, names: &Names, x: &Expr) -> Result<Outcome, OutOfMemory>
+    requires values { AreValues names.now }
+    requires built { IsBuilt x.now }
+    ensures outcome { IfOk result (λ outcome. IsOutcomeOf names.now (Statement.Print x.now) outcome names.now) }
+    ensures told { IfOk result IsTold }
+{
+    match evaluated(alloc, names, x)? {
         Ok(value) => {
             let mut text = Bytes::new(alloc);
             print_value(alloc, &value, &mut text)?;
             Ok(Outcome::Printed(text))
         }
-        Err(Refusal::Memory) => Err(OutOfMemory),
-        Err(refusal) => Ok(Outcome::Refused(StatementRefusal::Value(refusal))),
+        Err(refusal) => Ok(Outcome::Refused(refusal)),
     }
 }
 
-// The outcome of the product of two basis elements.
-fn outcome_of_elements(
+// The name has the value, where there is room for it.
+fn keep(alloc: Global, names: &mut Names, name: &Name, value: Value) -> Result<Outcome, OutOfMemory>
+    requires { IsValue value }
+    ensures ok { IfOk result (λ outcome. Keeps names.old name.now value outcome names.new) }
+    ensures told { IfOk result IsTold }
+    ensures err { OnErr result (names.new ≡ names.old) }
+{
+    if !names.has_room_for(name.as_slice()) {
+        return Ok(Outcome::Refused(StatementRefusal::TooManyNames));
+    }
+    names.assign(Name::new(alloc, name.as_slice())?, value)?;
+    Ok(Outcome::Kept)
+}
+
+// The outcome of an assignment.
+fn outcome_of_assignment(
     alloc: Global,
-    p: BasisId,
-    left: &Code,
-    q: BasisId,
-    right: &Code,
+    names: &mut Names,
+    name: &Name,
+    x: &Expr,
 ) -> Result<Outcome, OutOfMemory>
-    requires left { IsIndexWithin p left.now }
-    requires right { IsIndexWithin q right.now }
-    ensures { IfOk result (IsEvaluated (element_value p left.now) (element_value q right.now)) }
+    requires values { AreValues names.old }
+    requires built { IsBuilt x.now }
+    ensures outcome { IfOk result (λ outcome. IsOutcomeOf names.old (Statement.Assign name.now x.now) outcome names.new) }
+    ensures told { IfOk result IsTold }
+    ensures err { OnErr result (names.new ≡ names.old) }
 {
-    let a = Value::element(alloc, p, left.copy())?;
-    let b = Value::element(alloc, q, right.copy())?;
-    printed(alloc, times(alloc, &a, &b))
-}
-
-// The outcome of a product of a basis element and another factor.
-fn outcome_behind(alloc: Global, p: BasisId, left: &Code, b: &Expr) -> Result<Outcome, OutOfMemory>
-    requires { IsIndexWithin p left.now }
-    ensures { IfOk result (IsOutcomeOf (printed_product false (Expr.Element p left.now) false b.now)) }
-{
-    match b {
-        Expr::Element(q, right) => {
-            if !is_index(*q, right) {
-                return Ok(not_built());
-            }
-            outcome_of_elements(alloc, p, left, *q, right)
-        }
-        _ => Ok(not_built()),
-    }
-}
-
-// The outcome of a product of two factors.
-fn outcome_of_two(alloc: Global, a: &Expr, b: &Expr) -> Result<Outcome, OutOfMemory>
-    ensures { IfOk result (IsOutcomeOf (printed_product false a.now false b.now)) }
-{
-    match a {
-        Expr::Element(p, left) => {
-            if !is_index(*p, left) {
-                return Ok(not_built());
-            }
-            outcome_behind(alloc, *p, left, b)
-        }
-        _ => Ok(not_built()),
-    }
-}
-
-// The outcome of a product.
-fn outcome_of_factors(alloc: Global, factors: &[Factor]) -> Result<Outcome, OutOfMemory>
-    ensures { IfOk result (IsOutcomeOf (Statement.Print (Expr.Product factors.now))) }
-{
-    if factors.len() != 2 {
-        return Ok(not_built());
-    }
-    if factors[0].divides {
-        return Ok(not_built());
-    }
-    if factors[1].divides {
-        return Ok(not_built());
-    }
-    outcome_of_two(alloc, &factors[0].value, &factors[1].value)
-}
-
-// The outcome of a value that is to be printed.
-fn outcome_of_value(alloc: Global, value: &Expr) -> Result<Outcome, OutOfMemory>
-    ensures { IfOk result (IsOutcomeOf (Statement.Print value.now)) }
-{
-    match value {
-        Expr::Product(factors) => outcome_of_factors(alloc, factors.as_slice()),
-        _ => Ok(not_built()),
+    match evaluated(alloc, names, x)? {
+        Ok(value) => keep(alloc, names, name, value),
+        Err(refusal) => Ok(Outcome::Refused(refusal)),
     }
 }
 
 // The outcome of a statement.
-fn outcome_of(alloc: Global, statement: &Statement) -> Result<Outcome, OutOfMemory>
-    ensures { IfOk result (IsOutcomeOf statement.now) }
+fn outcome_of(
+    alloc: Global,
+    names: &mut Names,
+    statement: &Statement,
+) -> Result<Outcome, OutOfMemory>
+    requires values { AreValues names.old }
+    requires built { IsBuiltStatement statement.now }
+    ensures outcome { IfOk result (λ outcome. IsOutcomeOf names.old statement.now outcome names.new) }
+    ensures told { IfOk result IsTold }
+    ensures err { OnErr result (names.new ≡ names.old) }
 {
     match statement {
         Statement::Empty => Ok(Outcome::Empty),
-        Statement::Print(value) => outcome_of_value(alloc, value),
-        Statement::Assign { .. } | Statement::Equal(_, _) => Ok(not_built()),
+        Statement::Print(x) => outcome_of_print(alloc, names, x),
+        Statement::Assign { name, value } => outcome_of_assignment(alloc, names, name, value),
+        Statement::Equal(_, _) => unreachable!(),
     }
 }
 
-/// The outcome of the text of a statement, without leading blanks and without its `;`.
-pub fn evaluate(alloc: Global, text: &[u8]) -> Result<Outcome, OutOfMemory>
-    ensures { IfOk result (IsOutcome text.now) }
+/// The outcome of the text of a statement, without leading blanks and without its `;`. An accepted
+/// assignment gives its name the value; nothing else changes the names.
+pub fn outcome_of_text(
+    alloc: Global,
+    names: &mut Names,
+    text: &[u8],
+) -> Result<Outcome, OutOfMemory>
+    ensures values { AreValues names.old }
+    ensures outcome { IfOk result (λ outcome. IsOutcome names.old text.now outcome names.new) }
+    ensures told { IfOk result IsTold }
+    ensures err { OnErr result (names.new ≡ names.old) }
 {
+    names.are_values();
     if text.len() > TEXT_LIMIT {
         return Ok(Outcome::Refused(StatementRefusal::TooLong));
     }
     match parse(alloc, text) {
-        Ok(statement) => outcome_of(alloc, &statement),
-        Err(fault) => refused(fault),
+        Ok(statement) => outcome_of(alloc, names, &statement),
+        Err(fault) => outcome_of_fault(fault),
     }
 }
 
@@ -174,7 +167,7 @@ pub fn line_of(alloc: Global, number: u64, outcome: &Outcome) -> Result<Bytes, O
     ensures { IfOk result (λ line. line ≡ line_of_outcome number outcome.now) }
 {
     match outcome {
-        Outcome::Empty => Ok(Bytes::new(alloc)),
+        Outcome::Empty | Outcome::Kept => Ok(Bytes::new(alloc)),
         Outcome::Printed(text) => {
             let mut line = Bytes::new(alloc);
             line.push_all(text.as_slice())?;

@@ -1,33 +1,26 @@
-use Rattle.std.proofs.Common.{ℕ, ◌+◌, ◌∷◌, [], List, drop, get_or, arith, sym, subst}
-use Rattle.std.proofs.lemmas.List.{take_more}
-use Rattle.std.proofs.lemmas.Result.{err_from_is_err_and}
-use Rattle.hopf.specs.Sessions.{Advances, Stops, WritesIfSteady}
-use Rattle.hopf.proofs.Sessions.{advances_then, stops_then, steady_then, around}
+use Rattle.std.proofs.Common.{refl}
+use Rattle.hopf.proofs.Sessions.{stops_at_once}
 use Rattle.hopf.proofs.session.Session.feed.Goals as goal
 
-pub returns-in_err-feed_byte-clause-err : goal.returns-in_err-feed_byte-clause-err
-returns-in_err-feed_byte-clause-err g c =
-    let p = err_from_is_err_and c.from_residual.result c.from_residual.ensures.1 in
-    let i = c.loop-byte.byte-index in
-    rw p.1 (subst (λ (l : List ℕ). Stops c.args.self.now (g.O.Sink.taken c.args.out.now) (g.O.Sink.taken c.feed_byte.new.out) l) (around c.args.piece.now i (omega arith))
-    (stops_then _ _ _ _ _ _ _ _ _ (drop (i + 1) c.args.piece.now) c.loop-byte.invariant.so_far c.in_err-feed_byte.ensures.err))
+pub returns-then-self-clause-err : goal.returns-then-self-clause-err
+returns-then-self-clause-err g c = stops_at_once c.args.self.now c.args.self.now _ c.args.piece.now refl
 
-pub returns-in_err-feed_byte-clause-steady : goal.returns-in_err-feed_byte-clause-steady
-returns-in_err-feed_byte-clause-steady g c =
-    let i = c.loop-byte.byte-index in
-    let p = err_from_is_err_and c.from_residual.result c.from_residual.ensures.1 in
-    let step : WritesIfSteady c.loop-byte.self (g.O.Sink.room c.loop-byte.out) (get_or c.args.piece.now i 0 ∷ []) c.from_residual.result =
-    rw (p.1, p.2) c.in_err-feed_byte.ensures.steady in
-    subst (λ (l : List ℕ). WritesIfSteady c.args.self.now (g.O.Sink.room c.args.out.now) l c.from_residual.result) (around c.args.piece.now i (omega arith))
-    (steady_then _ _ _ _ _ _ _ (get_or c.args.piece.now i 0 ∷ []) (drop (i + 1) c.args.piece.now) _ c.loop-byte.invariant.so_far step)
-
-pub loop-byte-preserved : goal.loop-byte-preserved
-loop-byte-preserved g c =
-    let i = c.loop-byte.byte-index in
+-- whether the session is ended is no part of what it prints
+pub returns-clause-ok : goal.returns-clause-ok
+returns-clause-ok g c =
+    let h = c.in_ok-feed_bytes.ensures.ok in
     record {
-      so_far = subst (λ (l : List ℕ). Advances c.args.self.now c.feed_byte.new.self (g.O.Sink.taken c.args.out.now) (g.O.Sink.taken c.feed_byte.new.out) (g.O.Sink.room c.args.out.now) (g.O.Sink.room c.feed_byte.new.out) l)
-          (sym (take_more c.args.piece.now i 0 (omega arith)))
-          (advances_then _ _ _ _ _ _ _ _ _ _ _ c.loop-byte.invariant.so_far c.in_ok-feed_byte.ensures.ok);
-      statements = omega (arith, c.in_ok-feed_byte.ensures.statements);
-      later = omega arith;
+      written = h.written;
+      appended = h.appended;
+      continues = λ r.
+          let k = h.continues r in
+          record {
+            forth = λ rest left script.
+                let (all, is, same) = k.forth rest left script in
+                (all, is, record { lines = same.lines; statements = same.statements; printed = same.printed; refused = same.refused });
+            back = λ all left script.
+                let (rest, is, same) = k.back all left script in
+                (rest, is, record { lines = same.lines; statements = same.statements; printed = same.printed; refused = same.refused });
+          };
+      used = h.used;
     }

@@ -7,13 +7,13 @@ use Rattle.hopf.proofs.session.Session.run_all.Goals as goal
 pub returns-in_err-feed-clause-err : goal.returns-in_err-feed-clause-err
 returns-in_err-feed-clause-err g c =
     let p = err_from_is_err_and c.from_residual.result c.from_residual.ensures.1 in
-    rw p.1 (stops_whole _ _ _ _ c.in_err-feed.ensures.err)
+    rw p.1 (stops_whole _ _ _ _ _ c.in_err-feed.ensures.err)
 
 pub returns-in_err-feed-clause-steady : goal.returns-in_err-feed-clause-steady
-returns-in_err-feed-clause-steady g c n os room script fits =
+returns-in_err-feed-clause-steady g c n os left room script fits =
     let p = err_from_is_err_and c.from_residual.result c.from_residual.ensures.1 in
-    let whole : Script c.args.self.now (c.args.bytes.now ++ []) os = rw append-nil script in
-    rw (p.1, p.2) (c.in_err-feed.ensures.steady.never n [] os room whole fits)
+    let whole : Script c.args.self.now (c.args.bytes.now ++ []) os left = rw append-nil script in
+    rw (p.1, p.2) (c.in_err-feed.ensures.steady.never n [] os left room whole fits)
 
 pub returns-in_err-finish-clause-err : goal.returns-in_err-finish-clause-err
 returns-in_err-finish-clause-err g c =
@@ -21,10 +21,10 @@ returns-in_err-finish-clause-err g c =
     rw p.1 (stops_at_end _ _ _ _ _ _ _ _ c.in_ok-feed.ensures.ok c.in_err-finish.ensures.err)
 
 pub returns-in_err-finish-clause-steady : goal.returns-in_err-finish-clause-steady
-returns-in_err-finish-clause-steady g c n os room script fits =
+returns-in_err-finish-clause-steady g c n os left room script fits =
     let p = err_from_is_err_and c.from_residual-in_err-finish.result c.from_residual-in_err-finish.ensures.1 in
-    let (k, left, enough) = room_at_end _ _ _ _ _ _ _ os c.in_ok-feed.ensures.ok script n room fits in
-    rw (p.1, p.2) (c.in_err-finish.ensures.steady k left enough).0
+    let (k, remains, enough) = room_at_end _ _ _ _ _ _ _ os left c.in_ok-feed.ensures.ok script n room fits in
+    rw (p.1, p.2) (c.in_err-finish.ensures.steady k remains enough)
 
 pub returns-clause-ok : goal.returns-clause-ok
-returns-clause-ok g c = runs_whole _ _ _ _ _ _ _ _ _ c.in_ok-feed.ensures.ok c.in_ok-finish.ensures.ok c.in_ok-finish.ensures.refused
+returns-clause-ok g c = runs_whole _ _ _ _ _ _ _ _ _ c.in_ok-feed.ensures.ok c.in_ok-finish.ensures.ok
