@@ -6,7 +6,7 @@ use Rattle.std.specs.Int.{◌∣◌, IsGcd}
 use Rattle.std.specs.List.{insert}
 use Rattle.std.proofs.lemmas.Int.{ints}
 use Rattle.std.proofs.lemmas.Nat.Gcd.{dvd_trans, le_of_dvd}
-use Rattle.std.proofs.lemmas.List.{take_all, drop_all, length_push, get_or_push, get_or_append_left, get_or-map, get_or_default, length-map, length-append, length-take-le, length-drop}
+use Rattle.std.proofs.lemmas.List.{take_all, drop_all, length_push, get_or_push, get_or_append_left, get_or-map, get_or_default, get_or-take, length-map, length-append, length-take-le, length-drop}
 use Rattle.std.proofs.lemmas.List.Edits.{map_over_more}
 use Rattle.std.proofs.lemmas.List.Sums.{sum_by-cons, sum_by-insert}
 use Rattle.hopf_num.proofs.Ring.{*ℤ_assoc, +ℤ-*ℤ}
@@ -36,6 +36,17 @@ IsCommon-push den ts n key g h old is = record {
       let last : d ∣ unsigned_abs n = subst (λ (t : ℤ × List (List ℕ)). d ∣ unsigned_abs t.0) (get_or_push ts (n, key) (pos 0, []) (length ts) refl) (each (length ts) (omega (arith, size))) in
       is.2 d last (old.greatest d p (λ i lt.
       subst (λ (t : ℤ × List (List ℕ)). d ∣ unsigned_abs t.0) (get_or_append_left ts ((n, key) ∷ []) (pos 0, []) i lt) (each i (omega (arith, size)))));
+}
+
+-- where the first numerators have no factor in common with the denominator, all have none
+pub IsCommon-front : (den : ℕ) (ts : Terms) (n : ℕ) → n < length ts → IsCommon den (take n ts) 1 → IsCommon den ts 1
+unfolding one
+IsCommon-front den ts n within front = record {
+  divides_den = one-dvd den;
+  divides = λ i lt. one-dvd _;
+  greatest = λ d p each. front.greatest d p (λ i lt.
+      let size = length-take-le n ts (omega arith) in
+      subst (λ (t : ℤ × List (List ℕ)). d ∣ unsigned_abs t.0) (sym (get_or-take n ts i (pos 0, []) (omega (arith, size)))) (each i (omega (arith, size))));
 }
 
 -- a term that is not 0 at the end

@@ -262,7 +262,8 @@ impl Combo {
 
     /// The combination divided by a positive number. It takes no memory.
     ///
-    /// The cost is one pass over the numerators, and one more where a common factor is taken out.
+    /// The cost is one pass over the numerators, up to the first ones that have no factor in common with
+    /// the denominator, and a whole one where a common factor is taken out.
     pub fn over(self, den: u128) -> Combo
         requires positive { 1 ≤ den }
         requires room { self.den * den < 2 ^ 127 }
@@ -283,6 +284,15 @@ impl Combo {
             norm,
             terms,
         })
+    }
+
+    /// The numerators, over 1. It takes no memory.
+    pub fn numerators(self) -> Combo
+        ensures { result ≡ record { rank = self.rank; den = 1; terms = self.terms } }
+    {
+        let mut whole = self;
+        whole.den = 1;
+        whole
     }
 
     /// The tensor product: each key of the first followed by each key of the second.

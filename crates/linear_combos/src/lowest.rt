@@ -80,13 +80,17 @@ impl Unreduced {
     }
 }
 
-// The greatest common divisor of a denominator and all numerators.
+// The greatest common divisor of a denominator and all numerators. It is 1 as soon as that of the first
+// ones is.
 pub(crate) fn common_divisor(den: u128, terms: &[(i128, Key)]) -> u128
     requires { norm_of terms.now < 2 ^ 127 }
     ensures { IsCommon den terms.now result }
 {
     let mut common = den;
     for term in terms {
+        if common == 1 {
+            return 1;
+        }
         common = gcd(term.0.unsigned_abs(), common);
     }
     common

@@ -164,6 +164,7 @@ fn differences_and_quotients(rt: HostRuntime) -> Result<(), Fail> {
     assert!(rt; Combo::same(&twice, &multiple(rt.alloc(), 2, 1)?));
     let thirds = term(rt.alloc(), 4, 1)?.over(6);
     assert!(rt; Combo::same(&thirds, &multiple(rt.alloc(), 2, 3)?));
+    assert!(rt; Combo::same(&thirds.numerators(), &multiple(rt.alloc(), 2, 1)?));
     Ok(())
 }
 

@@ -6,7 +6,7 @@ use Rattle.std.proofs.lemmas.List.{get_or_read, take_more}
 use Rattle.std.proofs.lemmas.List.Sums.{get_or-le-sum_by}
 use Rattle.linear_combos.specs.Combos.{term_at}
 use Rattle.linear_combos.specs.Merges.{IsCommon}
-use Rattle.linear_combos.proofs.LowestCombos.{IsCommon-push}
+use Rattle.linear_combos.proofs.LowestCombos.{IsCommon-push, IsCommon-front}
 use Rattle.linear_combos.proofs.lowest.common_divisor.Goals as goal
 
 pub loop-term-preserved : goal.loop-term-preserved
@@ -23,3 +23,8 @@ loop-term-preserved c =
     let common : IsGcd (unsigned_abs t.0) c.loop-term.common c.gcd-common.result = subst (λ n. IsGcd n c.loop-term.common c.gcd-common.result) value c.gcd-common.ensures in
     subst (λ us. IsCommon c.args.den us c.gcd-common.result) (sym (take_more terms at (pos 0, []) c.loop-term-test.true))
     (IsCommon-push c.args.den (take at terms) t.0 t.1 c.loop-term.common c.gcd-common.result c.loop-term.invariant common)
+
+pub returns-then-common-eq1 : goal.returns-then-common-eq1
+returns-then-common-eq1 c =
+    IsCommon-front c.args.den c.args.terms.now c.loop-term.term-index c.loop-term-test.true
+    (subst (IsCommon c.args.den (take c.loop-term.term-index c.args.terms.now)) c.if-common-eq1.true c.loop-term.invariant)
