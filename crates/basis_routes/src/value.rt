@@ -106,6 +106,15 @@ impl Value {
         &self.combo
     }
 
+    /// The bases and the combination, as their owner's. It takes no memory.
+    pub fn into_parts(self) -> (Bases, Combo)
+        ensures bases { result.0 ≡ self.bases }
+        ensures combination { result.1 ≡ self.combination }
+        ensures value { IsValue self }
+    {
+        (self.bases, self.combo)
+    }
+
     /// The total degree: the greatest degree of a key, and 0 for zero. The cost is one pass over the
     /// keys.
     pub fn degree(&self) -> u32

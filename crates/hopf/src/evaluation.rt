@@ -10,7 +10,7 @@ use crate::refusal::StatementRefusal;
 use basis_routes::{Refusal, Value};
 use hopf_laws::BasisId;
 use hopf_num::OutOfMemory;
-use hopf_ops::{add, divide, negate, sub, tensor, times};
+use hopf_ops::{add_to, divide, negate, sub_from, tensor, times};
 use linear_combos::{Code, Combo, Key};
 use session_lang::{Expr, Factor, Name, Signed};
 use std::alloc::Global;
@@ -70,21 +70,21 @@ fn value_of_name(alloc: Global, names: &Names, name: &Name) -> Result<Value, Sta
     }
 }
 
-// One operation on two values.
+// One operation on two values. A sum is made of the first one.
 fn operate(
     alloc: Global,
     operator: Operator,
-    a: &Value,
+    a: Value,
     b: &Value,
 ) -> Result<Value, StatementRefusal>
-    ensures { OrMemory (Operates operator a.now b.now) result }
+    ensures { OrMemory (Operates operator a b.now) result }
 {
     told_of(match operator {
-        Operator::Plus => add(alloc, a, b),
-        Operator::Minus => sub(alloc, a, b),
-        Operator::Hash => tensor(alloc, a, b),
-        Operator::Times => times(alloc, a, b),
-        Operator::Over => divide(alloc, a, b),
+        Operator::Plus => add_to(alloc, a, b),
+        Operator::Minus => sub_from(alloc, a, b),
+        Operator::Hash => tensor(alloc, &a, b),
+        Operator::Times => times(alloc, &a, b),
+        Operator::Over => divide(alloc, &a, b),
     })
 }
 
@@ -105,11 +105,11 @@ fn apply(
     alloc: Global,
     names: &Names,
     operator: Operator,
-    a: &Value,
+    a: Value,
     x: &Expr,
 ) -> Result<Value, StatementRefusal>
     requires { IsBuilt x.now }
-    ensures { OrMemory (TakesStep names.now operator a.now x.now) result }
+    ensures { OrMemory (TakesStep names.now operator a x.now) result }
 {
     if let Expr::Named(name) = x {
         return match names.get(name.as_slice()) {
@@ -136,11 +136,11 @@ fn first_of_sum(alloc: Global, names: &Names, part: &Signed) -> Result<Value, St
 fn with_part(
     alloc: Global,
     names: &Names,
-    sum: &Value,
+    sum: Value,
     part: &Signed,
 ) -> Result<Value, StatementRefusal>
     requires { IsBuilt part.now.value }
-    ensures { OrMemory (TakesStep names.now (if part.now.minus then Operator.Minus else Operator.Plus) sum.now part.now.value) result }
+    ensures { OrMemory (TakesStep names.now (if part.now.minus then Operator.Minus else Operator.Plus) sum part.now.value) result }
 {
     let operator = if part.minus {
         Operator::Minus
@@ -158,7 +158,7 @@ fn value_of_sum(alloc: Global, names: &Names, parts: &[Signed]) -> Result<Value,
 {
     let mut sum = first_of_sum(alloc, names, &parts[0])?;
     for i in 1..parts.len() {
-        sum = with_part(alloc, names, &sum, &parts[i])?;
+        sum = with_part(alloc, names, sum, &parts[i])?;
     }
     Ok(sum)
 }
@@ -171,7 +171,7 @@ fn value_of_tensor(alloc: Global, names: &Names, parts: &[Expr]) -> Result<Value
 {
     let mut tensor = value_of(alloc, names, &parts[0])?;
     for i in 1..parts.len() {
-        tensor = apply(alloc, names, Operator::Hash, &tensor, &parts[i])?;
+        tensor = apply(alloc, names, Operator::Hash, tensor, &parts[i])?;
     }
     Ok(tensor)
 }
@@ -190,11 +190,11 @@ fn first_of_product(alloc: Global, names: &Names, part: &Factor) -> Result<Value
 fn with_factor(
     alloc: Global,
     names: &Names,
-    product: &Value,
+    product: Value,
     part: &Factor,
 ) -> Result<Value, StatementRefusal>
     requires { IsBuilt part.now.value }
-    ensures { OrMemory (TakesStep names.now (if part.now.divides then Operator.Over else Operator.Times) product.now part.now.value) result }
+    ensures { OrMemory (TakesStep names.now (if part.now.divides then Operator.Over else Operator.Times) product part.now.value) result }
 {
     let operator = if part.divides {
         Operator::Over
@@ -216,7 +216,7 @@ fn value_of_product(
 {
     let mut product = first_of_product(alloc, names, &parts[0])?;
     for i in 1..parts.len() {
-        product = with_factor(alloc, names, &product, &parts[i])?;
+        product = with_factor(alloc, names, product, &parts[i])?;
     }
     Ok(product)
 }

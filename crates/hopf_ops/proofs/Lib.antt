@@ -9,6 +9,7 @@ pub mod ProductsOfValues
 pub mod Rooms
 pub mod ScalarProductsExist
 pub mod SumsExist
+pub mod SumsInPlace
 pub mod SumsOfValues
 pub mod TensorsExist
 pub mod TensorsOfValues

@@ -1,6 +1,6 @@
 //! What operations on two values have in common.
-ghost use Rattle.std.specs.Prelude.{◌≡◌, IfOk};
-ghost use Rattle.hopf_laws.specs.Values.{IsValue};
+ghost use Rattle.std.specs.Prelude.{◌≡◌, ◌≤◌, max, IfOk};
+ghost use Rattle.hopf_laws.specs.Values.{IsValue, degree_of_value};
 ghost use Rattle.basis_routes.specs.Checks.{Tests};
 ghost use Rattle.basis_routes.specs.Joins.{joined};
 ghost use Rattle.hopf_ops.specs.Operations.{common_checks};
@@ -28,6 +28,19 @@ pub(crate) fn common_bases(a: &Value, b: &Value, degree: u32) -> Result<Bases, R
     Ok(bases)
 }
 
+// The same where the degree is the greater one of both, which is within the limit always.
+pub(crate) fn common_bases_of_sum(a: &Value, b: &Value) -> Result<Bases, Refusal>
+    ensures checks { Tests (common_checks (max (degree_of_value a.now) (degree_of_value b.now)) a.now b.now) result }
+    ensures value { IfOk result (λ bases. bases ≡ joined a.now.bases b.now.bases) }
+{
+    Check::SameRank {
+        left: a.rank(),
+        right: b.rank(),
+    }
+    .test()?;
+    a.bases().joined(b.bases())
+}
+
 // The combination over these bases, or the refusal that its fault is.
 pub(crate) fn over_bases(bases: Bases, combo: Result<Combo, ComboFault>) -> Result<Value, Refusal>
     requires { IfOk combo (IsOver bases) }
@@ -44,6 +57,7 @@ pub(crate) fn over_bases(bases: Bases, combo: Result<Combo, ComboFault>) -> Resu
 // The denominator of a value, from 1 to 2^127 - 1.
 pub(crate) fn den_of(a: &Value) -> u128
     ensures den { result ≡ a.now.combination.den }
+    ensures positive { 1 ≤ result }
     ensures value { IsValue a.now }
 {
     a.combo().den() as u128

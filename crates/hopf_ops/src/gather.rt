@@ -90,8 +90,9 @@ fn add_product(
     add_multiple(out, num, &product)
 }
 
-// Adds a multiple of a combination, both over 1, where there is room.
-fn add_multiple(out: &mut Combo, num: i128, by: &Combo) -> Result<(), OutOfMemory>
+// Adds a multiple of a combination, both over 1, where there is room. Each term costs a search among
+// those of the first, and a new one moves the terms behind it.
+pub(crate) fn add_multiple(out: &mut Combo, num: i128, by: &Combo) -> Result<(), OutOfMemory>
     requires rank { by.now.rank ≡ out.old.rank }
     requires whole { out.old.den ≡ 1 }
     requires room { norm_of out.old.terms + unsigned_abs num * norm_of by.now.terms < 2 ^ 127 }

@@ -16,4 +16,4 @@ mod tests;
 pub use laws::existence_law;
 pub use multiples::{divide, negate};
 pub use products::{tensor, times};
-pub use sums::{add, sub};
+pub use sums::{add, add_to, sub, sub_from};

@@ -1,8 +1,9 @@
 //! Sums and differences.
-ghost use Rattle.std.specs.Prelude.{◌≡◌, ℕ, Bool, true, false, IfOk};
+ghost use Rattle.std.specs.Prelude.{◌≡◌, ℕ, ◌*◌, ◌^◌, ◌<◌, pos, neg_ℤ, if◌then◌else◌, IfOk};
+ghost use Rattle.std.specs.Int.{◌∣◌};
 ghost use Rattle.hopf_num.specs.Divisors.{IsLcm};
 ghost use Rattle.hopf_num.specs.Room.{sum_rule};
-ghost use Rattle.linear_combos.specs.Combos.{norm_of};
+ghost use Rattle.linear_combos.specs.Combos.{IsCanonical, norm_of};
 ghost use Rattle.linear_combos.specs.Faults.{TestsRoom};
 ghost use Rattle.linear_combos.specs.Readings.{sum_of};
 ghost use Rattle.hopf_laws.specs.Values.{Expands, reading_of};
@@ -11,10 +12,15 @@ ghost use Rattle.basis_routes.specs.Joins.{joined};
 ghost use Rattle.hopf_ops.specs.Answers.{IsSumOrDifference};
 ghost use Rattle.hopf_ops.specs.Operations.{sum_checks, sum_or_difference_of, difference_of};
 
-use crate::common::{common_bases, over_bases};
+use crate::common::{common_bases, common_bases_of_sum, den_of, over_bases};
+use crate::gather::add_multiple;
 use basis_routes::{Refusal, Value};
+use hopf_num::Need;
 use linear_combos::{Combo, ComboFault};
 use std::alloc::Global;
+
+// So many terms are put among others one by one, and more are merged with them.
+const FEW_TERMS: usize = 16;
 
 /// The sum.
 ///
@@ -34,6 +40,87 @@ pub fn sub(alloc: Global, a: &Value, b: &Value) -> Result<Value, Refusal>
     ensures value { IfOk result (Expands (joined a.now.bases b.now.bases) (difference_of a.now b.now)) }
 {
     sum_or_difference(alloc, a, b, true)
+}
+
+/// The sum, made of the first operand. Its checks are those of `add`.
+///
+/// Where the denominator of the first is a multiple of that of the second, and the second has few terms,
+/// each of these costs a search among those of the first, and the sum comes to lowest terms as by
+/// `Combo::over`. Else the cost is that of `add`.
+pub fn add_to(alloc: Global, a: Value, b: &Value) -> Result<Value, Refusal>
+    ensures checks { (m : ℕ) → IsLcm a.combination.den b.now.combination.den m → Tests (sum_checks m a b.now) result }
+    ensures value { IfOk result (Expands (joined a.bases b.now.bases) (sum_of (reading_of a) (reading_of b.now))) }
+{
+    grown(alloc, a, b, false)
+}
+
+/// The difference, made of the first operand as `add_to` makes the sum.
+pub fn sub_from(alloc: Global, a: Value, b: &Value) -> Result<Value, Refusal>
+    ensures checks { (m : ℕ) → IsLcm a.combination.den b.now.combination.den m → Tests (sum_checks m a b.now) result }
+    ensures value { IfOk result (Expands (joined a.bases b.now.bases) (difference_of a b.now)) }
+{
+    grown(alloc, a, b, true)
+}
+
+// The difference, or else the sum, made of the first operand.
+fn grown(alloc: Global, a: Value, b: &Value, minus: bool) -> Result<Value, Refusal>
+    ensures checks { (m : ℕ) → IsLcm a.combination.den b.now.combination.den m → Tests (sum_checks m a b.now) result }
+    ensures value { IfOk result (Expands (joined a.bases b.now.bases) (sum_or_difference_of minus a b.now)) }
+{
+    if b.combo().len() > FEW_TERMS {
+        return sum_or_difference(alloc, &a, b, minus);
+    }
+    if den_of(&a) % den_of(b) != 0 {
+        return sum_or_difference(alloc, &a, b, minus);
+    }
+    with_terms(a, b, minus)
+}
+
+// The same over the denominator of the first operand: the terms of the second one are put among its own.
+fn with_terms(a: Value, b: &Value, minus: bool) -> Result<Value, Refusal>
+    requires multiple { b.now.combination.den ∣ a.combination.den }
+    ensures checks { (m : ℕ) → IsLcm a.combination.den b.now.combination.den m → Tests (sum_checks m a b.now) result }
+    ensures value { IfOk result (Expands (joined a.bases b.now.bases) (sum_or_difference_of minus a b.now)) }
+{
+    let bases = common_bases_of_sum(&a, b)?;
+    let factor = den_of(&a) / den_of(b);
+    let (_, combo) = a.into_parts();
+    over_bases(bases, with_terms_of(combo, b.combo(), factor, minus))
+}
+
+// The same of combinations, where the denominator of the first is that of the second times a factor.
+fn with_terms_of(a: Combo, b: &Combo, factor: u128, minus: bool) -> Result<Combo, ComboFault>
+    requires rank { a.rank ≡ b.now.rank }
+    requires factor { a.den ≡ factor * b.now.den }
+    requires canonical { IsCanonical a.rank a.den a.terms }
+    ensures sum { IfOk result (IsSumOrDifference minus a b.now) }
+    ensures room { (m : ℕ) → IsLcm a.den b.now.den m
+        → TestsRoom (sum_rule m a.den b.now.den (norm_of a.terms) (norm_of b.now.terms)) result }
+{
+    let need = Need::Sum {
+        left: a.norm(),
+        left_factor: 1,
+        right: b.norm(),
+        right_factor: factor,
+    };
+    if need.test().is_err() {
+        return Err(ComboFault::TooLarge(need));
+    }
+    let den = a.den() as u128;
+    let mut sum = a.numerators();
+    if add_multiple(&mut sum, with_sign(factor, minus), b).is_err() {
+        return Err(ComboFault::Memory);
+    }
+    Ok(sum.over(den))
+}
+
+// A factor, or else its negation.
+fn with_sign(factor: u128, minus: bool) -> i128
+    requires { factor < 2 ^ 127 }
+    ensures { result ≡ (if minus then (neg_ℤ (pos factor)) else (pos factor)) }
+{
+    let factor = factor as i128;
+    if minus { -factor } else { factor }
 }
 
 // The difference, or else the sum.

@@ -62,6 +62,38 @@ fn sums_and_differences(rt: HostRuntime) -> Result<(), Fail> {
     Ok(())
 }
 
+/// Sums and differences that are made of their first operand.
+#[test]
+fn sums_in_place(rt: HostRuntime) -> Result<(), Fail> {
+    let alloc = rt.alloc();
+    let x = monomial(alloc, &[1])?;
+    let y = monomial(alloc, &[2, 1])?;
+    let both = add_to(alloc, monomial(alloc, &[1])?, &y).map_err(|_| "refused")?;
+    assert!(rt; is_over(sub(alloc, &both, &y), 1, &[1], 1));
+    assert!(rt; is_over(add_to(alloc, both, &x), 1, &[2, 1], 1));
+    assert!(rt; is_over(sub_from(alloc, x, &y), 1, &[1, -1], 1));
+    Ok(())
+}
+
+/// Half of an element.
+fn half(alloc: Global) -> Result<Value, Fail> {
+    let two = scalar(alloc, 2, 1)?;
+    let x = monomial(alloc, &[1])?;
+    Ok(divide(alloc, &x, &two).map_err(|_| "refused")?)
+}
+
+/// The same with fractions: the denominator of the first operand stays, or is brought to lowest terms.
+#[test]
+fn sums_of_fractions_in_place(rt: HostRuntime) -> Result<(), Fail> {
+    let alloc = rt.alloc();
+    let x = monomial(alloc, &[1])?;
+    let first = half(alloc)?;
+    let second = half(alloc)?;
+    assert!(rt; is_over(sub_from(alloc, first, &x), 1, &[-1], 2));
+    assert!(rt; is_over(add_to(alloc, second, &half(alloc)?), 1, &[1], 1));
+    Ok(())
+}
+
 /// Products by components and by scalars, and tensor products.
 #[test]
 fn products(rt: HostRuntime) -> Result<(), Fail> {

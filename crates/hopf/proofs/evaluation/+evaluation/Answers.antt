@@ -17,14 +17,14 @@ use Rattle.hopf.proofs.evaluation.+evaluation.Goals as goal
 
 pub apply-returns-in-Some : goal.apply-returns-in-Some
 apply-returns-in-Some t c =
-    takes_step c.args.names.now c.args.operator c.args.a.now c.args.x.now (Ok c.in-Some.b.now) c.operate.result
+    takes_step c.args.names.now c.args.operator c.args.a c.args.x.now (Ok c.in-Some.b.now) c.operate.result
     (subst (λ (y : Expr). Evaluates c.args.names.now y (Ok c.in-Some.b.now)) (sym c.in-Named.is)
     (found c.args.names.now c.in-Named.name c.as_slice.result.now c.get.result c.in-Some.b c.in-Some.b.now c.get.ensures c.as_slice.ensures c.in-Some.is refl))
     c.operate.ensures
 
 pub apply-returns-in-None : goal.apply-returns-in-None
 apply-returns-in-None t c =
-    refused_step c.args.names.now c.args.operator c.args.a.now c.args.x.now c.unknown.result
+    refused_step c.args.names.now c.args.operator c.args.a c.args.x.now c.unknown.result
     (renamed c.args.names.now c.args.x.now (e.Named c.in-Named.name) (Err c.unknown.result) c.in-Named.is
     (lost c.args.names.now c.in-Named.name c.as_slice.result.now c.get.result c.unknown.result c.get.ensures c.as_slice.ensures c.in-None.is c.unknown.ensures))
 
