@@ -1,0 +1,24 @@
+//! The table of the built bases.
+ghost use Rattle.std.specs.Prelude.{◌≡◌};
+ghost use Rattle.built_bases.specs.Table.{is_built};
+
+use basis_names::BasisId;
+
+/// Whether a basis is built: its elements are read, computed with and printed. A session that names
+/// another one is told that it is not built yet.
+pub fn is_built_basis(basis: BasisId) -> bool
+    ensures { result ≡ is_built basis }
+{
+    match basis {
+        BasisId::QsymM => true,
+        BasisId::QsymF => false,
+        BasisId::NcsfS => false,
+        BasisId::NcsfL => false,
+        BasisId::NcsfR => false,
+        BasisId::FqsymF => false,
+        BasisId::FqsymG => false,
+        BasisId::WqsymM => false,
+        BasisId::FsymS => false,
+        BasisId::PbtP => false,
+    }
+}
