@@ -1,0 +1,4 @@
+pub mod LexemesOfTokens
+pub mod Numbers
+pub mod TokenSteps
+pub mod TokensExist
