@@ -1,0 +1,9 @@
+pub mod Accepted
+pub mod CallSteps
+pub mod FineSteps
+pub mod ListSteps
+pub mod OneReading
+pub mod ReachedStates
+pub mod StatementSteps
+pub mod StepsByState
+pub mod SumSteps

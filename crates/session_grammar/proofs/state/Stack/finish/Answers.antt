@@ -1,0 +1,7 @@
+use Rattle.session_grammar.specs.ParserSteps.{state_with}
+use Rattle.session_grammar.proofs.StepsByState.{finish_in-in_sum}
+use Rattle.session_grammar.proofs.state.Stack.finish.Goals as goal
+
+pub returns-in_default : goal.returns-in_default
+returns-in_default c =
+    rw (finish_in-in_sum c.args.mode (state_with c.args.self.now c.args.mode) c.in_default.not-First c.in_default.not-Word) c.end_of_sum.ensures
