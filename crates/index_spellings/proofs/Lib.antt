@@ -1,0 +1,2 @@
+pub mod PartsText
+pub mod Spellings
