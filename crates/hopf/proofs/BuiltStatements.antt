@@ -1,26 +1,35 @@
 -- A statement of the grammar in which nothing is refused is built.
-use Rattle.std.proofs.Common.{◌≡◌, ℕ, suc, Bool, true, false, List, [], ◌∷◌, Option, Some, None, arith}
+use Rattle.std.proofs.Common.{◌≡◌, ℕ, suc, Bool, true, false, ◌||◌, List, [], ◌∷◌, Option, Some, None, refl, arith}
+use Rattle.std.specs.Prelude.{not}
 use Rattle.std.proofs.lemmas.Bool.{leb-false}
+use Rattle.basis_names.specs.declared.bases.BasisId.{BasisId as BasisName}
+use Rattle.basis_names.specs.declared.bases.BasisId.TheVariants as name
+use Rattle.built_bases.specs.Table.{is_built as is_built_basis}
+use Rattle.session_tokens.specs.declared.lexeme.Lexeme.{Lexeme}
+use Rattle.session_tokens.specs.declared.lexeme.Linear.{Linear}
+use Rattle.session_tokens.specs.declared.lexeme.Linear.TheVariants as map
+use Rattle.session_grammar.specs.declared.expression.Expr.{Expr}
+use Rattle.session_grammar.specs.declared.expression.Expr.TheVariants as e
+use Rattle.session_grammar.specs.declared.expression.Factor.{Factor}
+use Rattle.session_grammar.specs.declared.expression.Signed.{Signed}
+use Rattle.session_grammar.specs.declared.expression.Statement.{Statement}
+use Rattle.session_grammar.specs.Grammar.{IsList, empty_list, full_list, AreItems, last_item, one_item, IsItem, number_item, list_item, inside, factor, signed, product_of, tensor_of, sum_of_one, sum_of, Atom, number, named, element, convert, apply, pair, along, group, Factors, no_factors, times, over, Product, product, Products, no_products, hash, Tensor, tensor, Tensors, no_tensors, plus, minus, Sum, sum, negative, IsStatement, nothing as empty, assign, print, equal}
+use Rattle.built_forms.specs.Forms.{is_built_map, begins_unbuilt}
+use Rattle.index_spellings.specs.Indices.{index_in, is_nothing, begins_bad_list}
+use Rattle.session_reading.specs.Faults.{begins_large, IsUnseen}
+use Rattle.session_reading.specs.Parses.{IsSound}
 use Rattle.hopf_laws.specs.declared.bases.BasisId.{BasisId}
-use Rattle.session_lang.specs.declared.expression.Expr.{Expr}
-use Rattle.session_lang.specs.declared.expression.Factor.{Factor}
-use Rattle.session_lang.specs.declared.expression.Signed.{Signed}
-use Rattle.session_lang.specs.declared.expression.Statement.{Statement}
-use Rattle.session_lang.specs.declared.lexeme.Lexeme.{Lexeme}
-use Rattle.session_lang.specs.declared.scans.Sight.TheVariants as sight
-use Rattle.session_lang.specs.Faults.{begins_large, begins_later_form, is_nothing, begins_bad_list}
-use Rattle.session_lang.specs.Grammar.{IsList, empty_list, full_list, AreItems, last_item, one_item, IsItem, number_item, list_item, inside, element_or_zero, factor, signed, product_of, tensor_of, sum_of_one, sum_of, Atom, number, named, element, convert, apply, pair, along, group, later_element, later_convert, Factors, no_factors, times, over, Product, product, Products, no_products, hash, Tensor, tensor, Tensors, no_tensors, plus, minus, Sum, sum, negative, IsStatement, nothing as empty, assign, print, equal}
-use Rattle.session_lang.specs.Parses.{IsUnseen, IsSound}
-use Rattle.session_lang.proofs.Spellings.{IndexOf, index_of-numbers}
-use Rattle.hopf.specs.Built.{IsBuilt, built_number, built_element, built_name, built_sum, built_tensor, built_product, AreBuilt, no_steps, built_step, IsBuiltStatement, nothing, printed, assigned}
-use Rattle.hopf.specs.Evaluation.{steps_of_sum, steps_of_tensor, steps_of_product}
+use Rattle.hopf_laws.specs.declared.bases.BasisId.TheVariants.{QsymM}
+use Rattle.session_evaluation.specs.Elements.{basis_of}
+use Rattle.session_evaluation.specs.Built.{IsBuilt, built_number, built_element, built_name, built_sum, built_tensor, built_product, AreBuilt, no_steps, built_step, IsBuiltStatement, nothing, printed, assigned}
+use Rattle.session_evaluation.specs.Evaluation.{steps_of_sum, steps_of_tensor, steps_of_product}
 
 -- Nothing is seen in lexemes that are refused for nothing, nor in what is left of them.
 abbrev pub IsClean : List Lexeme → Type 0
 IsClean [] = Unit {0}
-IsClean (t ∷ ts) = (begins_large (t ∷ ts) ≡ false) × (begins_later_form (t ∷ ts) ≡ false) × (begins_bad_list (t ∷ ts) ≡ false) × IsClean ts
+IsClean (t ∷ ts) = (begins_large (t ∷ ts) ≡ false) × (begins_unbuilt (t ∷ ts) ≡ false) × (begins_bad_list (t ∷ ts) ≡ false) × IsClean ts
 
-unseen_clean : (ls : List Lexeme) → IsUnseen sight.LargeNumber ls → IsUnseen sight.LaterForm ls → IsUnseen sight.BadList ls → IsClean ls
+unseen_clean : (ls : List Lexeme) → IsUnseen begins_large ls → IsUnseen begins_unbuilt ls → IsUnseen begins_bad_list ls → IsClean ls
 unseen_clean [] small built indices = tt
 unseen_clean (t ∷ ts) small built indices = (
   small 0 (omega arith),
@@ -47,10 +56,41 @@ mutual
   item_rest number_item clean = clean.3
   item_rest (list_item h) clean = list_rest h clean.3
 
--- The index that is spelled is within the limit.
-element_built : (b : BasisId) (numbers index : Option (List ℕ)) → IndexOf b numbers index → is_nothing index ≡ false → IsBuilt (element_or_zero b index)
-element_built b numbers (Some code) h seen = built_element h.1
-element_built b numbers None h seen = absurd (seen_unseen seen)
+-- The name of a built basis means a basis of values.
+built_basis : (b : BasisName) → not (is_built_basis b) ≡ false → (basis : BasisId) × (basis_of b ≡ Some basis)
+built_basis name.QsymM seen = (QsymM, refl)
+built_basis name.QsymF seen = absurd (seen_unseen seen)
+built_basis name.NcsfS seen = absurd (seen_unseen seen)
+built_basis name.NcsfL seen = absurd (seen_unseen seen)
+built_basis name.NcsfR seen = absurd (seen_unseen seen)
+built_basis name.FqsymF seen = absurd (seen_unseen seen)
+built_basis name.FqsymG seen = absurd (seen_unseen seen)
+built_basis name.WqsymM seen = absurd (seen_unseen seen)
+built_basis name.FsymS seen = absurd (seen_unseen seen)
+built_basis name.PbtP seen = absurd (seen_unseen seen)
+
+-- A list that is not bad spells an index.
+spelled_index : (index : Option (List ℕ)) → is_nothing index ≡ false → (code : List ℕ) × (index ≡ Some code)
+spelled_index (Some code) seen = (code, refl)
+spelled_index None seen = absurd (seen_unseen seen)
+
+element_built : (b : BasisName) (items : List Lexeme) → not (is_built_basis b) ≡ false → is_nothing (index_in b items) ≡ false → IsBuilt (e.Element b items)
+element_built b items built indexed =
+    let basis = built_basis b built in
+    let code = spelled_index (index_in b items) indexed in
+    built_element {basis = basis.0} {code = code.0} (record { built = basis.1; spelled = code.1 })
+
+-- No conversion and no linear function is built.
+never_or : (test : Bool) → (test || true) ≡ false → ⊥
+never_or true seen = seen_unseen seen
+never_or false seen = seen_unseen seen
+
+no_map : (f : Linear) → not (is_built_map f) ≡ false → ⊥
+no_map map.Coproduct seen = seen_unseen seen
+no_map map.Antipode seen = seen_unseen seen
+no_map map.Counit seen = seen_unseen seen
+no_map map.Mult seen = seen_unseen seen
+no_map map.Commute seen = seen_unseen seen
 
 -- Expressions of one part, and of more.
 product_built : (f : Factor) (fs : List Factor) → IsBuilt f.value → AreBuilt (steps_of_product fs) → IsBuilt (product_of (f ∷ fs))
@@ -74,14 +114,12 @@ mutual
   atom_read : {ts r : List Lexeme} {x : Expr} → Atom ts r x → IsClean ts → IsBuilt x × IsClean r
   atom_read number clean = (built_number (leb-false _ _ clean.0), clean.3)
   atom_read named clean = (built_name, clean.3)
-  atom_read (element {b = b} {ts = ts} here) clean = (element_built b _ _ (index_of-numbers b (inside 0 ts)) clean.2, list_rest here clean.3.3)
-  atom_read (convert h ending) clean = absurd (seen_unseen clean.1)
-  atom_read (apply h ending) clean = absurd (seen_unseen clean.1)
+  atom_read (element {b = b} {ts = ts} here) clean = (element_built b (inside 0 ts) clean.1 clean.2, list_rest here clean.3.3)
+  atom_read (convert {b = b} h ending) clean = absurd (never_or (not (is_built_basis b)) clean.1)
+  atom_read (apply {f = f} h ending) clean = absurd (no_map f clean.1)
   atom_read (pair h k) clean = absurd (seen_unseen clean.1)
   atom_read (along h through) clean = absurd (seen_unseen clean.1)
   atom_read (group h) clean = let inner = sum_read h clean.3 in (inner.0, inner.1.3)
-  atom_read (later_element here) clean = absurd (seen_unseen clean.1)
-  atom_read (later_convert h ending) clean = absurd (seen_unseen clean.1)
 
   factors_read : {ts r : List Lexeme} {fs : List Factor} → Factors ts r fs → IsClean ts → AreBuilt (steps_of_product fs) × IsClean r
   factors_read no_factors clean = (no_steps, clean)

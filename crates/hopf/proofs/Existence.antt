@@ -3,31 +3,31 @@ use Rattle.std.proofs.Common.{◌≡◌, ℕ, ◌≤◌, inl, inr, Bool, true, f
 use Rattle.std.specs.List.{slice_split}
 use Rattle.std.proofs.lemmas.Bool.{cases_lt}
 use Rattle.hopf_laws.specs.Values.{Expansion}
-use Rattle.session_lang.specs.declared.expression.Expr.{Expr}
-use Rattle.session_lang.specs.declared.expression.Statement.{Statement}
-use Rattle.session_lang.specs.declared.expression.Statement.TheVariants as s
-use Rattle.session_lang.specs.declared.fault.GrammarFault.{GrammarFault}
-use Rattle.session_lang.specs.Parses.{IsAnswer}
-use Rattle.session_lang.proofs.OneAnswer.{answer_exists}
-use Rattle.session_lang.proofs.OneText.{text_exists}
+use Rattle.session_grammar.specs.declared.expression.Expr.{Expr}
+use Rattle.session_grammar.specs.declared.expression.Statement.{Statement}
+use Rattle.session_grammar.specs.declared.expression.Statement.TheVariants as s
+use Rattle.session_reading.specs.declared.fault.GrammarFault.{GrammarFault}
+use Rattle.session_reading.specs.Parses.{IsAnswer}
+use Rattle.session_reading.proofs.OneAnswer.{answer_exists}
+use Rattle.value_texts.proofs.OneText.{text_exists}
 use Rattle.hopf.specs.declared.refusal.StatementRefusal.TheVariants as refusal
 use Rattle.hopf.specs.declared.statement.Outcome.{Outcome}
 use Rattle.hopf.specs.declared.statement.Outcome.TheVariants.{Empty, Kept, Printed, Refused}
-use Rattle.hopf.specs.Built.{IsBuilt, IsBuiltStatement, nothing, printed as built_print, assigned as built_assignment}
-use Rattle.hopf.specs.Names.{Names, with_value, has_room_for, AreValues}
-use Rattle.hopf.specs.Evaluation.{Answer, Evaluates}
-use Rattle.hopf.specs.Outcomes.{Keeps, room, no_room, IsOutcomeOf, empty, printed, not_printed, kept, not_kept, IsOutcome, too_long, misread, read}
+use Rattle.session_evaluation.specs.Built.{IsBuilt, IsBuiltStatement, nothing, printed as built_print, assigned as built_assignment}
+use Rattle.session_evaluation.specs.Names.{Names, with_value, has_room_for, AreValues}
+use Rattle.session_evaluation.specs.Evaluation.{Answer, Evaluates}
+use Rattle.hopf.specs.Outcomes.{refused_as, Keeps, room, no_room, IsOutcomeOf, empty, printed, not_printed, kept, not_kept, IsOutcome, too_long, misread, read}
 use Rattle.hopf.specs.Transcript.{is_end, is_none, trimmed, unfinished, AreOutcomes, IsScript}
 use Rattle.hopf.proofs.BuiltStatements.{sound_built}
-use Rattle.hopf.proofs.EvaluationsExist.{evaluated_value, evaluation_exists}
-use Rattle.hopf.proofs.Meanings.{meant}
+use Rattle.session_evaluation.proofs.EvaluationsExist.{evaluated_value, evaluation_exists}
+use Rattle.session_evaluation.proofs.Meanings.{meant}
 use Rattle.hopf.proofs.OneOutcome.{values_left}
 use Rattle.hopf.proofs.OneTranscript.{FromPart}
 
 -- A statement that prints has an outcome.
 print_exists : (names : Names) (x : Expr) (answer : Answer) → AreValues names → IsBuilt x → Evaluates names x answer → (o : Outcome) × (left : Names) × IsOutcomeOf names (s.Print x) o left
 print_exists names x (Ok v) are built h = let text = text_exists v (evaluated_value names x v are built h) in (Printed text.0, names, printed h (meant names x v are h) text.1)
-print_exists names x (Err r) are built h = (Refused r, names, not_printed h)
+print_exists names x (Err r) are built h = (Refused (refused_as r), names, not_printed h)
 
 -- A name is given a value, or not.
 keep_exists : (names : Names) (name : List ℕ) (v : Expansion) (has : Bool) → has_room_for names name ≡ has → (o : Outcome) × (left : Names) × Keeps names name v o left
@@ -38,7 +38,7 @@ keep_exists names name v false h = (Refused refusal.TooManyNames, names, no_room
 assignment_exists : (names : Names) (name : List ℕ) (x : Expr) (answer : Answer) → AreValues names → Evaluates names x answer → (o : Outcome) × (left : Names) × IsOutcomeOf names (s.Assign name x) o left
 assignment_exists names name x (Ok v) are h =
     let keeps = keep_exists names name v (has_room_for names name) refl in (keeps.0, keeps.1, kept h (meant names x v are h) keeps.2)
-assignment_exists names name x (Err r) are h = (Refused r, names, not_kept h)
+assignment_exists names name x (Err r) are h = (Refused (refused_as r), names, not_kept h)
 
 -- A statement that is built has an outcome.
 outcome_of_exists : (names : Names) (st : Statement) → AreValues names → IsBuiltStatement st → (o : Outcome) × (left : Names) × IsOutcomeOf names st o left

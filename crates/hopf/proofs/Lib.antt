@@ -1,16 +1,8 @@
-mod BuiltForms
 mod BuiltStatements
 mod Completeness
-mod EvaluationSteps
-mod EvaluationsExist
 mod Existence
-mod KnownNames
-mod Meanings
-mod OneEvaluation
-mod OneMeaning
 mod OneOutcome
 mod OneTranscript
-mod Operations
 mod ReadStatements
 mod Runs
 mod Sessions

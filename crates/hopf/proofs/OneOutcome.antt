@@ -1,34 +1,34 @@
 -- A text has one outcome in names that stand for values, and leaves one list of them.
 use Rattle.std.proofs.Common.{◌≡◌, ℕ, List, true, false, Ok, Err, Result, refl, sym, ◌∙◌, ap, subst, arith}
 use Rattle.hopf_laws.specs.Values.{Expansion, IsValue}
-use Rattle.session_lang.specs.declared.expression.Expr.{Expr}
-use Rattle.session_lang.specs.declared.expression.Statement.{Statement}
-use Rattle.session_lang.specs.declared.expression.Statement.TheVariants as s
-use Rattle.session_lang.specs.declared.fault.GrammarFault.{GrammarFault}
-use Rattle.session_lang.specs.Parses.{IsAnswer}
-use Rattle.session_lang.specs.Text.{IsTextOf}
-use Rattle.session_lang.proofs.OneAnswer.{answer_once}
-use Rattle.session_lang.proofs.OneText.{text_once}
-use Rattle.hopf.specs.declared.refusal.StatementRefusal.{StatementRefusal}
+use Rattle.session_grammar.specs.declared.expression.Expr.{Expr}
+use Rattle.session_grammar.specs.declared.expression.Statement.{Statement}
+use Rattle.session_grammar.specs.declared.expression.Statement.TheVariants as s
+use Rattle.session_reading.specs.declared.fault.GrammarFault.{GrammarFault}
+use Rattle.session_reading.specs.Parses.{IsAnswer}
+use Rattle.value_texts.specs.Text.{IsTextOf}
+use Rattle.session_reading.proofs.OneAnswer.{answer_once}
+use Rattle.value_texts.proofs.OneText.{text_once}
+use Rattle.session_evaluation.specs.declared.refusal.EvaluationRefusal.{EvaluationRefusal}
 use Rattle.hopf.specs.declared.refusal.StatementRefusal.TheVariants as refusal
 use Rattle.hopf.specs.declared.statement.Outcome.{Outcome}
 use Rattle.hopf.specs.declared.statement.Outcome.TheVariants.{Printed, Refused}
-use Rattle.hopf.specs.Built.{IsBuiltStatement, assigned as built_assignment}
-use Rattle.hopf.specs.Names.{Names, AreValues}
-use Rattle.hopf.specs.Evaluation.{Answer, Evaluates}
-use Rattle.hopf.specs.Outcomes.{Keeps, room, no_room, IsOutcomeOf, empty, printed, not_printed, kept, not_kept, IsOutcome, too_long, misread, read}
+use Rattle.session_evaluation.specs.Built.{IsBuiltStatement, assigned as built_assignment}
+use Rattle.session_evaluation.specs.Names.{Names, AreValues}
+use Rattle.session_evaluation.specs.Evaluation.{Answer, Evaluates}
+use Rattle.hopf.specs.Outcomes.{refused_as, Keeps, room, no_room, IsOutcomeOf, empty, printed, not_printed, kept, not_kept, IsOutcome, too_long, misread, read}
 use Rattle.hopf.proofs.BuiltStatements.{sound_built}
-use Rattle.hopf.proofs.EvaluationsExist.{evaluated_value}
-use Rattle.hopf.proofs.KnownNames.{values-with_value}
-use Rattle.hopf.proofs.OneEvaluation.{evaluation_once, evaluated_positive}
+use Rattle.session_evaluation.proofs.EvaluationsExist.{evaluated_value}
+use Rattle.session_evaluation.proofs.KnownNames.{values-with_value}
+use Rattle.session_evaluation.proofs.OneEvaluation.{evaluation_once, evaluated_positive}
 
 same_value : (names : Names) (x : Expr) (v w : Expansion) → AreValues names → Evaluates names x (Ok v) → Evaluates names x (Ok w) → v ≡ w
 same_value names x v w are h k = let same : ◌≡◌ {A = Answer} (Ok v) (Ok w) = evaluation_once names x (Ok v) (Ok w) are h k in cc
 
-same_refusal : (names : Names) (x : Expr) (r q : StatementRefusal) → AreValues names → Evaluates names x (Err r) → Evaluates names x (Err q) → r ≡ q
+same_refusal : (names : Names) (x : Expr) (r q : EvaluationRefusal) → AreValues names → Evaluates names x (Err r) → Evaluates names x (Err q) → r ≡ q
 same_refusal names x r q are h k = let same : ◌≡◌ {A = Answer} (Err r) (Err q) = evaluation_once names x (Err r) (Err q) are h k in cc
 
-not_both : (names : Names) (x : Expr) (v : Expansion) (r : StatementRefusal) → AreValues names → Evaluates names x (Ok v) → Evaluates names x (Err r) → ⊥
+not_both : (names : Names) (x : Expr) (v : Expansion) (r : EvaluationRefusal) → AreValues names → Evaluates names x (Ok v) → Evaluates names x (Err r) → ⊥
 not_both names x v r are h k = let same : ◌≡◌ {A = Answer} (Ok v) (Err r) = evaluation_once names x (Ok v) (Err r) are h k in absurd (cc)
 
 same_text : (names : Names) (x : Expr) (v w : Expansion) (a b : List ℕ) → AreValues names → Evaluates names x (Ok v) → Evaluates names x (Ok w) → IsTextOf v a → IsTextOf w b → a ≡ b
@@ -47,12 +47,12 @@ outcome_of_once names st o p left left' are empty empty = (refl, refl)
 outcome_of_once names st o p left left' are (printed {x = x} {v = v} {text = a} h m t) (printed {v = w} {text = b} k n u) = (ap Printed (same_text names x v w a b are h k t u), refl)
 outcome_of_once names st o p left left' are (printed {x = x} {v = v} h m t) (not_printed {r = r} k) = absurd (not_both names x v r are h k)
 outcome_of_once names st o p left left' are (not_printed {x = x} {r = r} k) (printed {v = v} h m t) = absurd (not_both names x v r are h k)
-outcome_of_once names st o p left left' are (not_printed {x = x} {r = r} h) (not_printed {r = q} k) = (ap Refused (same_refusal names x r q are h k), refl)
+outcome_of_once names st o p left left' are (not_printed {x = x} {r = r} h) (not_printed {r = q} k) = (ap (λ (z : EvaluationRefusal). Refused (refused_as z)) (same_refusal names x r q are h k), refl)
 outcome_of_once names st o p left left' are (kept {name = name} {x = x} {v = v} h m i) (kept {v = w} k n j) =
     keeps_once names name v o p left left' i (subst (λ (z : Expansion). Keeps names name z p left') (sym (same_value names x v w are h k)) j)
 outcome_of_once names st o p left left' are (kept {x = x} {v = v} h m i) (not_kept {r = r} k) = absurd (not_both names x v r are h k)
 outcome_of_once names st o p left left' are (not_kept {x = x} {r = r} k) (kept {v = v} h m i) = absurd (not_both names x v r are h k)
-outcome_of_once names st o p left left' are (not_kept {x = x} {r = r} h) (not_kept {r = q} k) = (ap Refused (same_refusal names x r q are h k), refl)
+outcome_of_once names st o p left left' are (not_kept {x = x} {r = r} h) (not_kept {r = q} k) = (ap (λ (z : EvaluationRefusal). Refused (refused_as z)) (same_refusal names x r q are h k), refl)
 
 same_fault : (text : List ℕ) (f g : GrammarFault) → IsAnswer text (Err f) → IsAnswer text (Err g) → f ≡ g
 same_fault text f g h k = let same : ◌≡◌ {A = Result Statement GrammarFault} (Err f) (Err g) = answer_once text (Err f) (Err g) h k in cc

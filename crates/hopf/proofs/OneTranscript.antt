@@ -2,7 +2,7 @@
 use Rattle.std.proofs.Common.{◌≡◌, ℕ, List, [], ◌∷◌, Bool, true, false, MatchBool, sym, ◌∙◌, subst}
 use Rattle.std.specs.List.{slice_split}
 use Rattle.hopf.specs.declared.statement.Outcome.{Outcome}
-use Rattle.hopf.specs.Names.{Names, AreValues}
+use Rattle.session_evaluation.specs.Names.{Names, AreValues}
 use Rattle.hopf.specs.Outcomes.{IsOutcome}
 use Rattle.hopf.specs.Transcript.{AreOutcomes, IsScript, is_end, is_none, trimmed, unfinished}
 use Rattle.hopf.proofs.OneOutcome.{outcome_once, values_left}

@@ -1,14 +1,14 @@
 -- What the answer of the parser means for a statement.
 use Rattle.std.proofs.Common.{◌≡◌, ℕ, ◌≤◌, List, Ok, Err, Result, IfOk, length, sym, subst}
 use Rattle.hopf_num.specs.declared.memory.OutOfMemory.{OutOfMemory}
-use Rattle.session_lang.specs.declared.expression.Statement.{Statement}
-use Rattle.session_lang.specs.declared.fault.GrammarFault.{GrammarFault}
-use Rattle.session_lang.specs.Parses.{IsAnswer, Parses, no_memory, answered}
+use Rattle.session_grammar.specs.declared.expression.Statement.{Statement}
+use Rattle.session_reading.specs.declared.fault.GrammarFault.{GrammarFault}
+use Rattle.session_reading.specs.Parses.{IsAnswer, Parses, no_memory, answered}
 use Rattle.hopf.specs.declared.refusal.StatementRefusal.TheVariants as refusal
 use Rattle.hopf.specs.declared.statement.Outcome.{Outcome}
 use Rattle.hopf.specs.declared.statement.Outcome.TheVariants.{Refused}
-use Rattle.hopf.specs.Built.{IsBuiltStatement}
-use Rattle.hopf.specs.Names.{Names}
+use Rattle.session_evaluation.specs.Built.{IsBuiltStatement}
+use Rattle.session_evaluation.specs.Names.{Names}
 use Rattle.hopf.specs.Outcomes.{IsOutcome, misread}
 use Rattle.hopf.specs.Sessions.{IsTold}
 use Rattle.hopf.proofs.BuiltStatements.{sound_built}

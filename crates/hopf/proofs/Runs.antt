@@ -9,7 +9,7 @@ use Rattle.hopf.specs.declared.session.SessionFault.{SessionFault}
 use Rattle.hopf.specs.declared.session.SessionFault.TheVariants.{Write}
 use Rattle.hopf.specs.declared.status.Status.{Status}
 use Rattle.hopf.specs.declared.status.Status.TheVariants.{Memory, WriteFault}
-use Rattle.hopf.specs.Names.{Names}
+use Rattle.session_evaluation.specs.Names.{Names}
 use Rattle.hopf.specs.Outcomes.{is_refusal}
 use Rattle.hopf.specs.Transcript.{lines, count_refused, some_refused}
 use Rattle.hopf.specs.Sessions.{Script, Runs, StopsWhole}

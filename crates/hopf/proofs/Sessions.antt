@@ -8,12 +8,12 @@ use Rattle.std.proofs.KnownBytes.{Appends-nil, Appends-trans}
 use Rattle.hopf_io.specs.Prefixes.{AppendsPrefix}
 use Rattle.hopf_io.specs.Steady.{SendsSteadily}
 use Rattle.hopf_io.specs.declared.source.Failed.{Failed}
-use Rattle.session_lang.specs.Tokens.{is_blank}
+use Rattle.session_tokens.specs.Tokens.{is_blank}
 use Rattle.hopf.specs.declared.session.Session.{Session}
 use Rattle.hopf.specs.declared.session.SessionFault.{SessionFault}
 use Rattle.hopf.specs.declared.statement.Outcome.{Outcome}
 use Rattle.hopf.specs.declared.statement.Outcome.TheVariants.{Refused}
-use Rattle.hopf.specs.Names.{Names}
+use Rattle.session_evaluation.specs.Names.{Names}
 use Rattle.hopf.specs.Outcomes.{IsOutcome, line_of, is_printed, is_refusal}
 use Rattle.hopf.specs.Transcript.{is_end, IsScript, lines, count_printed, count_refused, unfinished, unfinished_refusal}
 use Rattle.hopf.specs.Sessions.{Script, Same, Continues, Advances, Leaves, Stops, WritesIfSteady, Ends, EndStops, EndIfSteady, Finishes, Runs, StopsWhole, last_of}

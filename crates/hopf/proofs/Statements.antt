@@ -2,9 +2,9 @@
 use Rattle.std.proofs.Common.{◌≡◌, ℕ, List, [], ◌∷◌, ◌++◌, true, false, cond, refl}
 use Rattle.std.specs.List.{slice_split, onto_first}
 use Rattle.std.proofs.lemmas.List.Splits.{slice_split_none, slice_split_at}
-use Rattle.session_lang.specs.Tokens.{is_blank}
+use Rattle.session_tokens.specs.Tokens.{is_blank}
 use Rattle.hopf.specs.declared.statement.Outcome.{Outcome}
-use Rattle.hopf.specs.Names.{Names}
+use Rattle.session_evaluation.specs.Names.{Names}
 use Rattle.hopf.specs.Outcomes.{IsOutcome}
 use Rattle.hopf.specs.Transcript.{is_end, trimmed, unfinished, is_none, AreOutcomes, IsScript, starts_blank, IsText}
 

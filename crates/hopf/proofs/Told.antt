@@ -6,13 +6,14 @@ use Rattle.basis_routes.specs.declared.refusal.Refusal.{Refusal}
 use Rattle.basis_routes.specs.declared.refusal.Refusal.TheVariants as value
 use Rattle.basis_routes.specs.Checks.{refusal_of, IsFirstFailing}
 use Rattle.hopf_laws.specs.Values.{Expansion}
-use Rattle.session_lang.specs.declared.expression.Expr.{Expr}
-use Rattle.hopf.specs.declared.operator.Operator.{Operator}
-use Rattle.hopf.specs.declared.refusal.StatementRefusal.{StatementRefusal}
-use Rattle.hopf.specs.declared.refusal.StatementRefusal.TheVariants as refusal
+use Rattle.session_grammar.specs.declared.expression.Expr.{Expr}
+use Rattle.session_evaluation.specs.declared.operator.Operator.{Operator}
+use Rattle.session_evaluation.specs.declared.refusal.EvaluationRefusal.{EvaluationRefusal}
+use Rattle.session_evaluation.specs.declared.refusal.EvaluationRefusal.TheVariants as refusal
 use Rattle.hopf.specs.declared.statement.Outcome.TheVariants.{Refused}
-use Rattle.hopf.specs.Names.{Names}
-use Rattle.hopf.specs.Evaluation.{Answer, Steps, steps_of_sum, steps_of_tensor, steps_of_product, checks_of, Operates, answers, fails, Applies, Signs, Evaluates, number, element, known, unknown, sum, tensor_product, product, Folds, done, refused, step}
+use Rattle.session_evaluation.specs.Names.{Names}
+use Rattle.session_evaluation.specs.Evaluation.{Answer, Steps, steps_of_sum, steps_of_tensor, steps_of_product, checks_of, Operates, answers, fails, Applies, Signs, Evaluates, number, element, known, unknown, sum, tensor_product, product, Folds, done, refused, step}
+use Rattle.hopf.specs.Outcomes.{refused_as}
 use Rattle.hopf.specs.Sessions.{IsTold}
 
 check_told : (check : Check) → refusal_of check ≡ value.Memory → ⊥
@@ -31,7 +32,7 @@ failing_told (check ∷ checks) r (inl (told, broken)) is = check_told check (sy
 failing_told (check ∷ checks) r (inr (passes, later)) is = failing_told checks r later is
 
 -- a refusal of an operation is told where it is no want of memory
-pub value_told : (r : Refusal) → r ≢ value.Memory → IsTold (Refused (refusal.Value r))
+pub value_told : (r : Refusal) → r ≢ value.Memory → IsTold (Refused (refused_as (refusal.Value r)))
 value_told r other = record {
   ended = λ is. cc;
   read = λ is. cc;
@@ -41,7 +42,7 @@ value_told r other = record {
 -- a value, or a refusal that is told
 abbrev pub IsToldAnswer : Answer → Type 0
 IsToldAnswer (Ok v) = Unit {0}
-IsToldAnswer (Err r) = IsTold (Refused r)
+IsToldAnswer (Err r) = IsTold (Refused (refused_as r))
 
 operates_told : (o : Operator) (a b : Expansion) (answer : Answer) → Operates o a b answer → IsToldAnswer answer
 operates_told o a b answer (answers least all is) = tt
@@ -62,7 +63,7 @@ signs_told true (Err r) answer told h = same_told answer (Err r) h told
 mutual
   evaluated_told : (names : Names) (x : Expr) (answer : Answer) → Evaluates names x answer → IsToldAnswer answer
   evaluated_told names x answer number = tt
-  evaluated_told names x answer element = tt
+  evaluated_told names x answer (element spells) = tt
   evaluated_told names x answer (known is) = tt
   evaluated_told names x answer (unknown is) = record { ended = λ is. cc; read = λ is. cc; evaluated = λ is. cc }
   evaluated_told names x answer (sum part parts {first = first} {signed = signed} h signs later) =
@@ -77,5 +78,5 @@ mutual
       folds_told names next later answer (applies_told o a operand next (evaluated_told names x operand h) applies) rest
 
 -- the refusal of an expression is told
-pub refusal_told : (names : Names) (x : Expr) (r : StatementRefusal) → Evaluates names x (Err r) → IsTold (Refused r)
+pub refusal_told : (names : Names) (x : Expr) (r : EvaluationRefusal) → Evaluates names x (Err r) → IsTold (Refused (refused_as r))
 refusal_told names x r h = evaluated_told names x (Err r) h

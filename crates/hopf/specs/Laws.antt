@@ -1,26 +1,10 @@
--- Laws of sessions.
-use Rattle.std.specs.Prelude.{◌≡◌, ℕ, List, Ok, length}
-use Rattle.linear_combos.specs.Readings.{Reading, AgreeAt}
-use Rattle.hopf_laws.specs.Values.{Expansion}
-use Rattle.session_lang.specs.declared.expression.Expr.{Expr}
+-- The law of sessions.
+use Rattle.std.specs.Prelude.{◌≡◌, ℕ, List}
 use Rattle.hopf.specs.declared.statement.Outcome.{Outcome}
-use Rattle.hopf.specs.Built.{IsBuilt}
-use Rattle.hopf.specs.Evaluation.{Evaluates}
-use Rattle.hopf.specs.Meaning.{Means}
-use Rattle.hopf.specs.Names.{Names, AreValues}
+use Rattle.session_evaluation.specs.Names.{Names, AreValues}
 use Rattle.hopf.specs.Transcript.{IsScript}
 
 -- in names that stand for values, every list of bytes has one list of outcomes, and so one transcript, and leaves one list of names
 abbrev pub TranscriptLaw : Type 0
 TranscriptLaw = (names : Names) (bytes : List ℕ) → AreValues names → (outcomes : List Outcome) × (left : Names) × IsScript names bytes outcomes left
     × ((others : List Outcome) (left' : Names) → IsScript names bytes others left' → (others ≡ outcomes) × (left' ≡ left))
-
--- an expression means one reading
-abbrev pub OneMeaning : Type 0
-OneMeaning = (names : Names) (x : Expr) (r s : Reading) → Means names x r → Means names x s → r ≡ s
-
--- expressions that mean the same, and have values over the same bases, have the same value, whatever bases their parts were entered in
-abbrev pub SameMeaning : Type 0
-SameMeaning = (names names' : Names) (x y : Expr) (v w : Expansion) (r s : Reading) → AreValues names → AreValues names' → IsBuilt x → IsBuilt y
-    → Evaluates names x (Ok v) → Evaluates names' y (Ok w) → Means names x r → Means names' y s
-    → v.bases ≡ w.bases → ((ps : List (List ℕ)) → length ps ≡ length v.bases → AgreeAt r s ps) → v ≡ w

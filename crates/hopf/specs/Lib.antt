@@ -1,8 +1,4 @@
-pub mod Built
-pub mod Evaluation
 pub mod Laws
-pub mod Meaning
-pub mod Names
 pub mod Outcomes
 pub mod Refusals
 pub mod Runs

@@ -1,20 +1,27 @@
 -- What a statement comes to, by cases, what it does to the names, and the line that it prints.
 use Rattle.std.specs.Prelude.{◌≡◌, ℕ, ◌<◌, ◌≤◌, List, [], ◌∷◌, ◌++◌, Bool, true, false, Ok, Err, length}
 use Rattle.hopf_laws.specs.Values.{Expansion}
-use Rattle.session_lang.specs.declared.expression.Expr.{Expr}
-use Rattle.session_lang.specs.declared.expression.Statement.{Statement}
-use Rattle.session_lang.specs.declared.expression.Statement.TheVariants as s
-use Rattle.session_lang.specs.declared.fault.GrammarFault.{GrammarFault}
-use Rattle.session_lang.specs.Parses.{IsAnswer}
-use Rattle.session_lang.specs.Text.{IsTextOf}
+use Rattle.session_grammar.specs.declared.expression.Expr.{Expr}
+use Rattle.session_grammar.specs.declared.expression.Statement.{Statement}
+use Rattle.session_grammar.specs.declared.expression.Statement.TheVariants as s
+use Rattle.session_reading.specs.declared.fault.GrammarFault.{GrammarFault}
+use Rattle.session_reading.specs.Parses.{IsAnswer}
+use Rattle.value_texts.specs.Text.{IsTextOf}
+use Rattle.session_evaluation.specs.declared.refusal.EvaluationRefusal.{EvaluationRefusal}
+use Rattle.session_evaluation.specs.declared.refusal.EvaluationRefusal.TheVariants as evaluation
 use Rattle.hopf.specs.declared.refusal.StatementRefusal.{StatementRefusal}
 use Rattle.hopf.specs.declared.refusal.StatementRefusal.TheVariants as refusal
 use Rattle.hopf.specs.declared.statement.Outcome.{Outcome}
 use Rattle.hopf.specs.declared.statement.Outcome.TheVariants.{Empty, Kept, Printed, Refused}
-use Rattle.hopf.specs.Names.{Names, with_value, has_room_for}
-use Rattle.hopf.specs.Evaluation.{Evaluates}
-use Rattle.hopf.specs.Meaning.{IsMeant}
+use Rattle.session_evaluation.specs.Names.{Names, with_value, has_room_for}
+use Rattle.session_evaluation.specs.Evaluation.{Evaluates}
+use Rattle.session_evaluation.specs.Meaning.{IsMeant}
 use Rattle.hopf.specs.Refusals.{refusal_line}
+
+-- the refusal of a statement whose expression has no value
+abbrev pub refused_as : EvaluationRefusal → StatementRefusal
+refused_as (evaluation.UnknownName name) = refusal.UnknownName name
+refused_as (evaluation.Value r) = refusal.Value r
 
 -- a name is given a value where there is room for it, and else refused
 pub data Keeps (names : Names) (name : List ℕ) (v : Expansion) : Outcome → Names → Type 0 where
@@ -29,12 +36,12 @@ pub data IsOutcomeOf (names : Names) : Statement → Outcome → Names → Type 
   printed : {x : Expr} {v : Expansion} {text : List ℕ} → Evaluates names x (Ok v) → IsMeant names x v → IsTextOf v text
       → IsOutcomeOf names (s.Print x) (Printed text) names
   -- or it is refused
-  not_printed : {x : Expr} {r : StatementRefusal} → Evaluates names x (Err r) → IsOutcomeOf names (s.Print x) (Refused r) names
+  not_printed : {x : Expr} {r : EvaluationRefusal} → Evaluates names x (Err r) → IsOutcomeOf names (s.Print x) (Refused (refused_as r)) names
   -- an assignment gives its name the value, and prints nothing; or the name would be one too many
   kept : {name : List ℕ} {x : Expr} {v : Expansion} {outcome : Outcome} {left : Names} → Evaluates names x (Ok v) → IsMeant names x v → Keeps names name v outcome left
       → IsOutcomeOf names (s.Assign name x) outcome left
   -- or the sum is refused
-  not_kept : {name : List ℕ} {x : Expr} {r : StatementRefusal} → Evaluates names x (Err r) → IsOutcomeOf names (s.Assign name x) (Refused r) names
+  not_kept : {name : List ℕ} {x : Expr} {r : EvaluationRefusal} → Evaluates names x (Err r) → IsOutcomeOf names (s.Assign name x) (Refused (refused_as r)) names
 
 -- the outcome of the text of a statement whose `;` came, and the names after it
 pub data IsOutcome (names : Names) (text : List ℕ) : Outcome → Names → Type 0 where

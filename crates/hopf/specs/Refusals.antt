@@ -5,8 +5,8 @@ use Rattle.hopf_laws.specs.declared.bases.AlgebraId.{AlgebraId}
 use Rattle.hopf_laws.specs.declared.bases.AlgebraId.TheVariants.{Qsym}
 use Rattle.basis_routes.specs.declared.refusal.Refusal.{Refusal}
 use Rattle.basis_routes.specs.declared.refusal.Refusal.TheVariants as value
-use Rattle.session_lang.specs.declared.fault.GrammarFault.{GrammarFault}
-use Rattle.session_lang.specs.declared.fault.GrammarFault.TheVariants as fault
+use Rattle.session_reading.specs.declared.fault.GrammarFault.{GrammarFault}
+use Rattle.session_reading.specs.declared.fault.GrammarFault.TheVariants as fault
 use Rattle.hopf.specs.declared.refusal.StatementRefusal.{StatementRefusal}
 use Rattle.hopf.specs.declared.refusal.StatementRefusal.TheVariants as refusal
 

@@ -5,7 +5,7 @@ use Rattle.hopf_io.specs.Prefixes.{IsPrefix}
 use Rattle.hopf.specs.declared.statement.Outcome.{Outcome}
 use Rattle.hopf.specs.declared.status.Status.{Status}
 use Rattle.hopf.specs.declared.status.Status.TheVariants.{Refused}
-use Rattle.hopf.specs.Names.{Names}
+use Rattle.session_evaluation.specs.Names.{Names}
 use Rattle.hopf.specs.Transcript.{IsScript, lines, some_refused}
 
 -- the status says that a statement was refused

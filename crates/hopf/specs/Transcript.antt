@@ -5,9 +5,9 @@ use Rattle.hopf.specs.declared.statement.Outcome.{Outcome}
 use Rattle.hopf.specs.declared.statement.Outcome.TheVariants.{Refused}
 use Rattle.hopf.specs.declared.refusal.StatementRefusal.{StatementRefusal}
 use Rattle.hopf.specs.declared.refusal.StatementRefusal.TheVariants.{TooLong, Unfinished}
-use Rattle.hopf.specs.Names.{Names}
+use Rattle.session_evaluation.specs.Names.{Names}
 use Rattle.hopf.specs.Outcomes.{IsOutcome, line_of, is_printed, is_refusal}
-use Rattle.session_lang.specs.Tokens.{is_blank}
+use Rattle.session_tokens.specs.Tokens.{is_blank}
 
 -- `;` ends a statement
 abbrev pub is_end : ℕ → Bool

@@ -1,18 +1,13 @@
 //! `hopf`: reads a session of statements, and prints a line for each value and each refusal.
 #![tactic(auto)]
 
-mod evaluation;
 mod laws;
-mod names;
-mod operator;
 mod reading;
 mod refusal;
 mod run;
 mod session;
 mod statement;
 mod status;
-#[cfg(test)]
-mod tests;
 mod words;
 
 use hopf_io::{StdSink, StdSource};

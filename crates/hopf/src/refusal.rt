@@ -6,7 +6,8 @@ use basis_routes::Refusal;
 use hopf_io::Bytes;
 use hopf_laws::AlgebraId;
 use hopf_num::OutOfMemory;
-use session_lang::{GrammarFault, Name};
+use session_reading::GrammarFault;
+use session_tokens::Name;
 use std::alloc::Global;
 
 /// Why a statement is refused.

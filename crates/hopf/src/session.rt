@@ -1,16 +1,16 @@
 //! A session runs each statement when its `;` comes.
 ghost use Rattle.std.specs.Prelude.{◌≡◌, ◌+◌, ◌-◌, ◌^◌, ◌<◌, ◌≤◌, ◌↔◌, [], ◌∷◌, ℕ, List, Some, true, false, length, option_copied, IfOk, OnOk, OnErr, IsErrOf};
-ghost use Rattle.hopf.specs.Names.{value_of};
+ghost use Rattle.session_evaluation.specs.Names.{value_of};
 ghost use Rattle.hopf.specs.Outcomes.{IsOutcome};
 ghost use Rattle.hopf.specs.Transcript.{IsText, lines};
 ghost use Rattle.hopf.specs.declared.statement.Outcome.{Outcome};
 
-use crate::names::Names;
 use crate::statement::{Outcome, line_of, outcome_of_text, refusal_of_unfinished};
 use basis_routes::Value;
 use hopf_io::{Bytes, Failed, Sink, send_all};
 use hopf_num::OutOfMemory;
-use session_lang::is_blank;
+use session_evaluation::Names;
+use session_tokens::is_blank;
 use std::alloc::Global;
 
 /// Why a session stopped.
@@ -73,7 +73,7 @@ pub struct Session {
 
 impl Session {
     ghost use Rattle.hopf.specs.Sessions.{IsTold, KeepsAllButNames, Counted, Advances, Stops, WritesIfSteady, WritesLast, Script, Ends, EndStops, EndIfSteady, Finishes, Runs, StopsWhole, last_of};
-    ghost use Rattle.hopf.specs.Names.{Names};
+    ghost use Rattle.session_evaluation.specs.Names.{Names};
     ghost use Rattle.hopf_io.specs.Faults.{Rose};
     ghost use Rattle.hopf_io.specs.Prefixes.{AppendsPrefix};
 

@@ -1,21 +1,23 @@
 //! What a statement comes to, and its line.
 ghost use Rattle.std.specs.Prelude.{◌≡◌, OnErr, IfOk};
-ghost use Rattle.hopf.specs.Built.{IsBuilt, IsBuiltStatement};
+ghost use Rattle.session_evaluation.specs.Built.{IsBuilt, IsBuiltStatement};
 ghost use Rattle.hopf_laws.specs.Values.{IsValue};
-ghost use Rattle.hopf.specs.Evaluation.{Evaluates};
-ghost use Rattle.hopf.specs.Names.{AreValues};
-ghost use Rattle.hopf.specs.Outcomes.{Keeps, IsOutcomeOf, IsOutcome, line_of as line_of_outcome};
+ghost use Rattle.session_evaluation.specs.Evaluation.{Evaluates};
+ghost use Rattle.session_evaluation.specs.Names.{AreValues};
+ghost use Rattle.hopf.specs.Outcomes.{refused_as, Keeps, IsOutcomeOf, IsOutcome, line_of as line_of_outcome};
 ghost use Rattle.hopf.specs.Sessions.{IsTold};
 ghost use Rattle.hopf.specs.Transcript.{unfinished_refusal};
 
-use crate::evaluation::value_of;
-use crate::names::Names;
 use crate::refusal::{StatementRefusal, line_of_refusal};
 use basis_routes::{Refusal, Value};
 use hopf_io::Bytes;
 use hopf_num::OutOfMemory;
-use session_lang::{Expr, GrammarFault, Name, Statement, parse, print_value};
+use session_evaluation::{EvaluationRefusal, Names, value_of};
+use session_grammar::{Expr, Statement};
+use session_reading::{GrammarFault, parse};
+use session_tokens::Name;
 use std::alloc::Global;
+use value_texts::print_value;
 
 /// The most bytes of the text of a statement.
 pub const TEXT_LIMIT: usize = 65_536;
@@ -49,13 +51,23 @@ fn evaluated(
     alloc: Global,
     names: &Names,
     x: &Expr,
-) -> Result<Result<Value, StatementRefusal>, OutOfMemory>
+) -> Result<Result<Value, EvaluationRefusal>, OutOfMemory>
     requires { IsBuilt x.now }
     ensures { IfOk result (Evaluates names.now x.now) }
 {
     match value_of(alloc, names, x) {
-        Err(StatementRefusal::Value(Refusal::Memory)) => Err(OutOfMemory),
+        Err(EvaluationRefusal::Value(Refusal::Memory)) => Err(OutOfMemory),
         answer => Ok(answer),
+    }
+}
+
+// The refusal of a statement whose expression has no value.
+fn refusal_of(refusal: EvaluationRefusal) -> StatementRefusal
+    ensures { result ≡ refused_as refusal }
+{
+    match refusal {
+        EvaluationRefusal::UnknownName(name) => StatementRefusal::UnknownName(name),
+        EvaluationRefusal::Value(refusal) => StatementRefusal::Value(refusal),
     }
 }
 
@@ -72,7 +84,7 @@ fn outcome_of_print(alloc: Global, names: &Names, x: &Expr) -> Result<Outcome, O
             print_value(alloc, &value, &mut text)?;
             Ok(Outcome::Printed(text))
         }
-        Err(refusal) => Ok(Outcome::Refused(refusal)),
+        Err(refusal) => Ok(Outcome::Refused(refusal_of(refusal))),
     }
 }
 
@@ -105,7 +117,7 @@ fn outcome_of_assignment(
 {
     match evaluated(alloc, names, x)? {
         Ok(value) => keep(alloc, names, name, value),
-        Err(refusal) => Ok(Outcome::Refused(refusal)),
+        Err(refusal) => Ok(Outcome::Refused(refusal_of(refusal))),
     }
 }
 

@@ -1,6 +1,6 @@
 use Rattle.std.proofs.Common.{◌≡◌, ℕ, List, rules, ap, sym, ◌∙◌, subst}
 use Rattle.hopf.specs.declared.statement.Outcome.TheVariants.{Kept}
-use Rattle.hopf.specs.Names.{Names, has_room_for, with_value}
+use Rattle.session_evaluation.specs.Names.{Names, has_room_for, with_value}
 use Rattle.hopf.specs.Outcomes.{Keeps, room, no_room}
 use Rattle.hopf.proofs.statement.keep.Goals as goal
 

@@ -1,5 +1,5 @@
 use Rattle.std.proofs.Common.{sym, subst}
-use Rattle.session_lang.specs.declared.expression.Statement.{Statement}
+use Rattle.session_grammar.specs.declared.expression.Statement.{Statement}
 use Rattle.hopf.specs.declared.statement.Outcome.TheVariants.{Empty}
 use Rattle.hopf.specs.Outcomes.{IsOutcomeOf, empty}
 use Rattle.hopf.proofs.statement.outcome_of.Goals as goal

@@ -1,8 +1,12 @@
 use Rattle.std.proofs.Common.{◌≡◌, ℕ, List, ◌++◌, Ok, sym, ◌∙◌, ap, subst}
-use Rattle.session_lang.specs.Text.{IsTextOf}
-use Rattle.hopf.specs.Evaluation.{Answer, Evaluates}
-use Rattle.hopf.specs.Outcomes.{printed, not_printed}
-use Rattle.hopf.proofs.Meanings.{meant}
+use Rattle.value_texts.specs.Text.{IsTextOf}
+use Rattle.session_evaluation.specs.Evaluation.{Answer, Evaluates}
+use Rattle.session_grammar.specs.declared.expression.Statement.TheVariants as s
+use Rattle.hopf.specs.Outcomes.{IsOutcomeOf, printed, not_printed}
+use Rattle.session_evaluation.proofs.Meanings.{meant}
+use Rattle.hopf.specs.declared.refusal.StatementRefusal.{StatementRefusal}
+use Rattle.hopf.specs.declared.statement.Outcome.TheVariants.{Refused}
+use Rattle.hopf.specs.Sessions.{IsTold}
 use Rattle.hopf.proofs.Told.{refusal_told}
 use Rattle.hopf.proofs.statement.outcome_of_print.Goals as goal
 
@@ -14,8 +18,11 @@ returns-in_ok-print_value-in-Ok-clause-outcome c =
     printed h (meant c.args.names.now c.args.x.now c.in-Ok.value c.requires.values h) (subst (λ (t : List ℕ). IsTextOf c.in-Ok.value t) (sym same) is_text)
 
 pub returns-in-Err-clause-outcome : goal.returns-in-Err-clause-outcome
-returns-in-Err-clause-outcome c = not_printed (subst (λ (a : Answer). Evaluates c.args.names.now c.args.x.now a) c.in-Err.is c.in_ok-value.ensures)
+returns-in-Err-clause-outcome c =
+    subst (λ (q : StatementRefusal). IsOutcomeOf c.args.names.now (s.Print c.args.x.now) (Refused q) c.args.names.now) (sym c.refusal_of.ensures)
+    (not_printed (subst (λ (a : Answer). Evaluates c.args.names.now c.args.x.now a) c.in-Err.is c.in_ok-value.ensures))
 
 pub returns-in-Err-clause-told : goal.returns-in-Err-clause-told
 returns-in-Err-clause-told c =
-    refusal_told c.args.names.now c.args.x.now c.in-Err.refusal (subst (λ (a : Answer). Evaluates c.args.names.now c.args.x.now a) c.in-Err.is c.in_ok-value.ensures)
+    subst (λ (q : StatementRefusal). IsTold (Refused q)) (sym c.refusal_of.ensures)
+    (refusal_told c.args.names.now c.args.x.now c.in-Err.refusal (subst (λ (a : Answer). Evaluates c.args.names.now c.args.x.now a) c.in-Err.is c.in_ok-value.ensures))

@@ -1,8 +1,0 @@
-use Rattle.hopf.proofs.OneMeaning.{means_once, same_meaning}
-use Rattle.hopf.proofs.laws.meaning_law.Goals as goal
-
-pub returns-clause-one : goal.returns-clause-one
-returns-clause-one c = means_once
-
-pub returns-clause-same : goal.returns-clause-same
-returns-clause-same c = same_meaning

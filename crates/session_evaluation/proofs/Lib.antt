@@ -1,0 +1,9 @@
+pub mod BuiltForms
+pub mod EvaluationSteps
+pub mod EvaluationsExist
+pub mod KnownNames
+pub mod Meanings
+pub mod OneEvaluation
+pub mod OneMeaning
+pub mod Operations
+pub mod SpelledElements

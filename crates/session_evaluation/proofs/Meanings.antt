@@ -1,0 +1,316 @@
+-- The value of an expression reads as the expression means.
+use Rattle.std.proofs.Common.{◌≡◌, ◌≢◌, ℕ, zero, suc, ◌+◌, ◌*◌, ◌≤◌, Bool, true, false, ◌||◌, Ok, Err, List, [], ◌∷◌, ◌++◌, map, length, take, drop, refl, sym, ◌∙◌, ap, subst, arith, unsigned_abs}
+use Rattle.std.specs.Prelude.{if◌then◌else◌, nat_eq}
+use Rattle.std.specs.List.{All}
+use Rattle.std.proofs.Math.IntN.{ℤ, pos, negsuc, ◌*ℤ◌}
+use Rattle.std.proofs.Math.Nat.{mul-pos}
+use Rattle.std.proofs.lemmas.Int.{ints}
+use Rattle.std.proofs.lemmas.List.{length-map, length-append, length-take, length-drop, map-append}
+use Rattle.hopf_num.specs.Fractions.{Ratio, reciprocal}
+use Rattle.hopf_num.proofs.Reciprocals.{reciprocal_agrees, ratio_nonzero}
+use Rattle.linear_combos.specs.Rows.{Kind, kind_of}
+use Rattle.linear_combos.specs.Readings.{Reading, element, product, tensor, sum_of, multiple, kinds_of, denominator, AgreeAt}
+use Rattle.linear_combos.proofs.Agreement.{agree_trans, sum_agrees, multiple_agrees, tensor_agrees, product_agrees}
+use Rattle.hopf_laws.specs.declared.bases.BasisId.{BasisId}
+use Rattle.hopf_laws.specs.Bases.{row_of, rows_of}
+use Rattle.hopf_laws.specs.Values.{Expansion, Expands, reading_of, ratio_of}
+use Rattle.hopf_laws.proofs.Uniqueness.{length-rows}
+use Rattle.basis_routes.specs.declared.checks.Check.TheVariants.{SameRank, Scalar}
+use Rattle.basis_routes.specs.Checks.{Passes}
+use Rattle.basis_routes.specs.Joins.{joined}
+use Rattle.hopf_ops.specs.Operations.{negation_of, quotient_of, has_scalar, product_room, component_checks}
+use Rattle.hopf_ops.proofs.SumsOfValues.{same_bases, joined-same}
+use Rattle.session_grammar.specs.declared.expression.Expr.{Expr}
+use Rattle.session_grammar.specs.declared.expression.Expr.TheVariants as e
+use Rattle.session_grammar.specs.declared.expression.Factor.{Factor}
+use Rattle.session_grammar.specs.declared.expression.Signed.{Signed}
+use Rattle.session_evaluation.specs.declared.operator.Operator.{Operator}
+use Rattle.session_evaluation.specs.declared.operator.Operator.TheVariants.{Plus, Minus, Hash, Times, Over}
+use Rattle.session_evaluation.specs.declared.refusal.EvaluationRefusal.{EvaluationRefusal}
+use Rattle.session_evaluation.specs.Names.{Names, AreValues}
+use Rattle.session_evaluation.specs.Evaluation.{Answer, number_value, Operates, answers, Applies, Signs, Steps, steps_of_sum, steps_of_tensor, steps_of_product, Evaluates, number as evaluated_number, element as evaluated_element, known, unknown, sum, tensor_product, product as evaluated_product, Folds, done, refused, step}
+use Rattle.session_evaluation.specs.Meaning.{number, negative, ratio, is_scalar, combined, signed, Means, number_means, element_means, name_means, sum_means, tensor_means, product_means, Combine, combined_all, combine, IsMeant}
+use Rattle.session_evaluation.proofs.KnownNames.{known_value}
+
+-- readings with the same kinds and positive denominators that agree at all tuples with a point for each component
+pub record Alike (q r : Reading) : Type 0 where
+  pub kinds : kinds_of q ≡ kinds_of r
+  pub left : 1 ≤ denominator q
+  pub right : 1 ≤ denominator r
+  pub agree : (ps : List (List ℕ)) → length ps ≡ length (kinds_of q) → AgreeAt q r ps
+
+-- a product of positive numbers is positive
+positive_product : (m n : ℕ) → 1 ≤ m → 1 ≤ n → 1 ≤ m * n
+positive_product m n left right = let here = mul-pos {m = m} {n = n} (omega arith) (omega arith) in omega arith
+
+-- an integer other than 0 has a positive absolute value
+nonzero_abs : (z : ℤ) → z ≢ pos 0 → 1 ≤ unsigned_abs z
+nonzero_abs (pos zero) some = absurd (some refl)
+nonzero_abs (pos (suc n)) some = omega arith
+nonzero_abs (negsuc n) some = omega arith
+
+-- a reading is like itself
+alike_refl : (q : Reading) → 1 ≤ denominator q → Alike q q
+alike_refl q positive = record { kinds = refl; left = positive; right = positive; agree = λ ps long. refl }
+
+-- readings like a third one are alike
+alike_trans : (q r s : Reading) → Alike q r → Alike r s → Alike q s
+alike_trans q r s first second = record {
+  kinds = first.kinds ∙ second.kinds;
+  left = first.left;
+  right = second.right;
+  agree = λ ps long. agree_trans q r s ps first.right (first.agree ps long) (second.agree ps (long ∙ ap (λ (ks : List Kind). length ks) first.kinds));
+}
+
+-- sums of readings that are alike
+sums_alike : (a a' b b' : Reading) → kinds_of a ≡ kinds_of b → Alike a a' → Alike b b' → Alike (sum_of a b) (sum_of a' b')
+sums_alike a a' b b' kinds first second = record {
+  kinds = first.kinds;
+  left = positive_product (denominator a) (denominator b) first.left second.left;
+  right = positive_product (denominator a') (denominator b') first.right second.right;
+  agree = λ ps long. sum_agrees a a' b b' ps (first.agree ps long) (second.agree ps (long ∙ ap (λ (ks : List Kind). length ks) kinds));
+}
+
+-- multiples of readings that are alike, by ratios that are the same
+multiples_alike : (num num' : ℤ) (den den' : ℕ) (a a' : Reading) → 1 ≤ den → 1 ≤ den' → num *ℤ pos den' ≡ num' *ℤ pos den → Alike a a'
+    → Alike (multiple num den a) (multiple num' den' a')
+multiples_alike num num' den den' a a' left right same alike = record {
+  kinds = alike.kinds;
+  left = positive_product den (denominator a) left alike.left;
+  right = positive_product den' (denominator a') right alike.right;
+  agree = λ ps long. multiple_agrees num num' den den' a a' ps same (alike.agree ps long);
+}
+
+-- negatives of readings that are alike
+negatives_alike : (a a' : Reading) → Alike a a' → Alike (negative a) (negative a')
+negatives_alike a a' alike = multiples_alike (negsuc 0) (negsuc 0) 1 1 a a' (omega arith) (omega arith) refl alike
+
+-- tensors of readings that are alike
+tensors_alike : (a a' b b' : Reading) → Alike a a' → Alike b b' → Alike (tensor a b) (tensor a' b')
+tensors_alike a a' b b' first second = record {
+  kinds = λ i. first.kinds i ++ second.kinds i;
+  left = positive_product (denominator a) (denominator b) first.left second.left;
+  right = positive_product (denominator a') (denominator b') first.right second.right;
+  agree = λ ps long.
+      let k : ℕ = length (kinds_of a) in
+      let whole : length ps ≡ k + length (kinds_of b) = long ∙ length-append (kinds_of a) (kinds_of b) in
+      let front : length (take k ps) ≡ k = omega (arith, whole, length-take k ps) in
+      let behind : length (drop k ps) ≡ length (kinds_of b) = omega (arith, whole, length-drop k ps) in
+      tensor_agrees a a' b b' ps first.kinds (first.agree (take k ps) front) (second.agree (drop k ps) behind);
+}
+
+-- products of readings that are alike
+products_alike : (a a' b b' : Reading) → kinds_of a ≡ kinds_of b → Alike a a' → Alike b b' → Alike (product a b) (product a' b')
+products_alike a a' b b' kinds first second = record {
+  kinds = first.kinds;
+  left = positive_product (denominator a) (denominator b) first.left second.left;
+  right = positive_product (denominator a') (denominator b') first.right second.right;
+  agree = λ ps long. product_agrees a a' b b' ps first.kinds first.agree (λ qs long'. second.agree qs (long' ∙ ap (λ (ks : List Kind). length ks) kinds));
+}
+
+-- the kinds of a list of bases
+abbrev kinds_over : List BasisId → List Kind
+kinds_over bases = map kind_of (rows_of bases)
+
+-- there is one kind for each basis
+length-kinds : (bases : List BasisId) → length (kinds_over bases) ≡ length bases
+length-kinds bases = length-map (rows_of bases) kind_of ∙ length-rows bases
+
+-- the kinds of a list of bases and another
+kinds-append : (lefts rights : List BasisId) → kinds_over (lefts ++ rights) ≡ kinds_over lefts ++ kinds_over rights
+kinds-append lefts rights = ap (λ rows. map kind_of rows) (map-append (λ basis. row_of basis) lefts rights) ∙ map-append kind_of (rows_of lefts) (rows_of rights)
+
+-- the value over bases that reads as a reading of their kinds is like it
+expands_alike : (bases : List BasisId) (q : Reading) (v : Expansion) → kinds_of q ≡ kinds_over bases → 1 ≤ denominator q → Expands bases q v → Alike (reading_of v) q
+expands_alike bases q v kinds positive expands = record {
+  kinds = ap kinds_over expands.over ∙ sym kinds;
+  left = expands.value.canonical.lowest.positive;
+  right = positive;
+  agree = λ ps long. expands.reads ps (long ∙ length-kinds v.bases ∙ ap (λ (bs : List BasisId). length bs) expands.over);
+}
+
+-- a reading like a value has one kind for each of its bases
+length-alike : (v : Expansion) (r : Reading) → Alike (reading_of v) r → length v.bases ≡ length (kinds_of r)
+length-alike v r alike = sym (length-kinds v.bases) ∙ ap (λ (ks : List Kind). length ks) alike.kinds
+
+-- so it is like each reading that this reading is like
+answer_alike : (bases : List BasisId) (q r : Reading) (v : Expansion) → kinds_of q ≡ kinds_over bases → Alike q r → Expands bases q v → Alike (reading_of v) r
+answer_alike bases q r v kinds alike expands = alike_trans (reading_of v) q r (expands_alike bases q v kinds alike.left expands) alike
+
+-- values of one rank have the same kinds
+same_kinds : (a b : Expansion) → length a.bases ≡ length b.bases → kinds_over a.bases ≡ kinds_over b.bases
+same_kinds a b long = ap kinds_over (same_bases a.bases b.bases long)
+
+-- and so have their joined bases
+joined_kinds : (a b : Expansion) → length a.bases ≡ length b.bases → kinds_over a.bases ≡ kinds_over (joined a.bases b.bases)
+joined_kinds a b long = ap kinds_over (sym (joined-same a.bases b.bases long))
+
+-- a sum of values is like the sum that it means
+plus_alike : (a b v : Expansion) (ra rb : Reading) → Alike (reading_of a) ra → Alike (reading_of b) rb → length a.bases ≡ length b.bases
+    → Expands (joined a.bases b.bases) (sum_of (reading_of a) (reading_of b)) v → Alike (reading_of v) (sum_of ra rb)
+plus_alike a b v ra rb first second long expands =
+    answer_alike (joined a.bases b.bases) (sum_of (reading_of a) (reading_of b)) (sum_of ra rb) v (joined_kinds a b long)
+    (sums_alike (reading_of a) ra (reading_of b) rb (same_kinds a b long) first second) expands
+
+-- and a difference
+minus_alike : (a b v : Expansion) (ra rb : Reading) → Alike (reading_of a) ra → Alike (reading_of b) rb → length a.bases ≡ length b.bases
+    → Expands (joined a.bases b.bases) (sum_of (reading_of a) (negation_of b)) v → Alike (reading_of v) (sum_of ra (negative rb))
+minus_alike a b v ra rb first second long expands =
+    answer_alike (joined a.bases b.bases) (sum_of (reading_of a) (negation_of b)) (sum_of ra (negative rb)) v (joined_kinds a b long)
+    (sums_alike (reading_of a) ra (negation_of b) (negative rb) (same_kinds a b long) first (negatives_alike (reading_of b) rb second)) expands
+
+-- and a tensor product
+hash_alike : (a b v : Expansion) (ra rb : Reading) → Alike (reading_of a) ra → Alike (reading_of b) rb
+    → Expands (a.bases ++ b.bases) (tensor (reading_of a) (reading_of b)) v → Alike (reading_of v) (tensor ra rb)
+hash_alike a b v ra rb first second expands =
+    answer_alike (a.bases ++ b.bases) (tensor (reading_of a) (reading_of b)) (tensor ra rb) v (sym (kinds-append a.bases b.bases))
+    (tensors_alike (reading_of a) ra (reading_of b) rb first second) expands
+
+-- and a product, which is a tensor product where a factor is a scalar
+product_alike : (scalar : Bool) (a b v : Expansion) (ra rb : Reading) → Alike (reading_of a) ra → Alike (reading_of b) rb
+    → All Passes (if scalar then product_room 0 a b else component_checks a b)
+    → Expands (if scalar then a.bases ++ b.bases else joined a.bases b.bases) (if scalar then tensor (reading_of a) (reading_of b) else product (reading_of a) (reading_of b)) v
+    → Alike (reading_of v) (if scalar then tensor ra rb else product ra rb)
+product_alike true a b v ra rb first second pass expands = hash_alike a b v ra rb first second expands
+product_alike false a b v ra rb first second pass expands =
+    let long : length a.bases ≡ length b.bases = pass 0 (SameRank 0 0) (omega arith) in
+    answer_alike (joined a.bases b.bases) (product (reading_of a) (reading_of b)) (product ra rb) v (joined_kinds a b long)
+    (products_alike (reading_of a) ra (reading_of b) rb (same_kinds a b long) first second) expands
+
+-- one of two values is a scalar where one of their readings is
+same_scalars : (a b : Expansion) (ra rb : Reading) → Alike (reading_of a) ra → Alike (reading_of b) rb → has_scalar a b ≡ (is_scalar ra || is_scalar rb)
+same_scalars a b ra rb first second = λ i. nat_eq (length-alike a ra first i) 0 || nat_eq (length-alike b rb second i) 0
+
+-- so a product is like the product that it means
+times_alike : (a b v : Expansion) (ra rb : Reading) → Alike (reading_of a) ra → Alike (reading_of b) rb → Operates Times a b (Ok v) → Alike (reading_of v) (combined Times ra rb)
+times_alike a b v ra rb first second (answers lcm pass expands) =
+    subst (λ (scalar : Bool). Alike (reading_of v) (if scalar then tensor ra rb else product ra rb)) (same_scalars a b ra rb first second)
+    (product_alike (has_scalar a b) a b v ra rb first second pass expands)
+
+-- and a quotient, whose divisor is a scalar other than 0
+over_alike : (a b v : Expansion) (ra rb : Reading) → Alike (reading_of a) ra → Alike (reading_of b) rb → length b.bases ≡ 0 → (ratio_of b).num ≢ pos 0
+    → Expands a.bases (quotient_of a b) v → Alike (reading_of v) (combined Over ra rb)
+over_alike a b v ra rb first second none some expands =
+    let by : Ratio = ratio_of b in
+    let by' : Ratio = ratio rb in
+    let same : by.num *ℤ pos by'.den ≡ by'.num *ℤ pos by.den = second.agree [] (sym (length-kinds b.bases ∙ none)) in
+    let some' : by'.num ≢ pos 0 = ratio_nonzero by by' second.left second.right same some in
+    answer_alike a.bases (quotient_of a b) (combined Over ra rb) v refl
+    (multiples_alike (reciprocal by).num (reciprocal by').num (reciprocal by).den (reciprocal by').den (reading_of a) ra
+    (nonzero_abs by.num some) (nonzero_abs by'.num some') (reciprocal_agrees by by' second.left second.right same) first) expands
+
+-- what an operation answers is like what the operation means
+operation_alike : (o : Operator) (a b v : Expansion) (ra rb : Reading) → Alike (reading_of a) ra → Alike (reading_of b) rb → Operates o a b (Ok v)
+    → Alike (reading_of v) (combined o ra rb)
+operation_alike Plus a b v ra rb first second (answers lcm pass expands) = plus_alike a b v ra rb first second (pass 0 (SameRank 0 0) (omega arith)) expands
+operation_alike Minus a b v ra rb first second (answers lcm pass expands) = minus_alike a b v ra rb first second (pass 0 (SameRank 0 0) (omega arith)) expands
+operation_alike Hash a b v ra rb first second (answers lcm pass expands) = hash_alike a b v ra rb first second expands
+operation_alike Times a b v ra rb first second operates = times_alike a b v ra rb first second operates
+operation_alike Over a b v ra rb first second (answers lcm pass expands) =
+    over_alike a b v ra rb first second (pass 0 (Scalar 0) (omega arith)) (pass 1 (Scalar 0) (omega arith)) expands
+
+-- a number as a value is like the number
+number_alike : (n : ℕ) → Alike (reading_of (number_value n)) (number n)
+number_alike zero = record {
+  kinds = refl;
+  left = omega arith;
+  right = omega arith;
+  agree = λ ps long. omega (arith, ints);
+}
+number_alike (suc n) = alike_refl (number (suc n)) (omega arith)
+
+-- an expression that comes to a value means a reading like it
+abbrev pub AnswerMeant : Names → Expr → Answer → Type 0
+AnswerMeant names x (Ok v) = (r : Reading) × Means names x r × Alike (reading_of v) r
+AnswerMeant names x (Err r) = Unit {0}
+
+-- steps from a value to a value combine a reading like the first to one like the last; none lead from a refusal to a value
+abbrev FoldMeant : Names → Answer → Steps → Answer → Type 0
+FoldMeant names first steps (Err r) = Unit {0}
+FoldMeant names (Err r) steps (Ok v) = ⊥
+FoldMeant names (Ok a) steps (Ok v) = (ra : Reading) → Alike (reading_of a) ra → (r : Reading) × Combine names ra steps r × Alike (reading_of v) r
+
+-- no step leads on
+done_meant : (names : Names) (answer : Answer) → FoldMeant names answer [] answer
+done_meant names (Ok v) = λ ra alike. (ra, combined_all, alike)
+done_meant names (Err r) = tt
+
+-- one more step, in front of steps that do
+step_meant : (names : Names) (a : Expansion) (o : Operator) (x : Expr) (steps : Steps) (operand next answer : Answer) → AnswerMeant names x operand → Applies o a operand next
+    → FoldMeant names next steps answer → FoldMeant names (Ok a) ((o, x) ∷ steps) answer
+step_meant names a o x steps operand next (Err r) meant applies fold = tt
+step_meant names a o x steps operand (Err r) (Ok v) meant applies fold = absurd fold
+step_meant names a o x steps (Err r) (Ok c) (Ok v) meant applies fold = absurd (cc)
+step_meant names a o x steps (Ok b) (Ok c) (Ok v) meant applies fold = λ ra alike.
+    let rest = fold (combined o ra meant.0) (operation_alike o a b c ra meant.0 alike meant.2 applies) in
+    (rest.0, combine meant.1 rest.1, rest.2)
+
+-- the first operand of a sum, with its sign
+signed_alike : (minus : Bool) (a c : Expansion) (ra : Reading) → Alike (reading_of a) ra → Signs minus (Ok a) (Ok c) → Alike (reading_of c) (signed minus ra)
+signed_alike false a c ra alike signs = let same : a ≡ c = cc in subst (λ (w : Expansion). Alike (reading_of w) ra) same alike
+signed_alike true a c ra alike signs =
+    let same : signs.0 ≡ c = cc in
+    subst (λ (w : Expansion). Alike (reading_of w) (negative ra)) same
+    (answer_alike a.bases (negation_of a) (negative ra) signs.0 refl (negatives_alike (reading_of a) ra alike) signs.1)
+
+-- a refusal with a sign is no value
+signed_refusal : (minus : Bool) (r : EvaluationRefusal) (c : Expansion) → Signs minus (Err r) (Ok c) → ⊥
+signed_refusal false r c signs = absurd (cc)
+signed_refusal true r c signs = absurd (cc)
+
+-- a sum that comes to a value
+sum_meant : (names : Names) (part : Signed) (parts : List Signed) (first with_sign answer : Answer) → AnswerMeant names part.value first → Signs part.minus first with_sign
+    → FoldMeant names with_sign (steps_of_sum parts) answer → AnswerMeant names (e.Sum (part ∷ parts)) answer
+sum_meant names part parts first with_sign (Err r) meant signs fold = tt
+sum_meant names part parts first (Err r) (Ok v) meant signs fold = absurd fold
+sum_meant names part parts (Err r) (Ok c) (Ok v) meant signs fold = absurd (signed_refusal part.minus r c signs)
+sum_meant names part parts (Ok a) (Ok c) (Ok v) meant signs fold =
+    let rest = fold (signed part.minus meant.0) (signed_alike part.minus a c meant.0 meant.2 signs) in
+    (rest.0, sum_means part parts meant.1 rest.1, rest.2)
+
+-- a tensor product that does
+tensor_meant : (names : Names) (part : Expr) (parts : List Expr) (first answer : Answer) → AnswerMeant names part first
+    → FoldMeant names first (steps_of_tensor parts) answer → AnswerMeant names (e.Tensor (part ∷ parts)) answer
+tensor_meant names part parts first (Err r) meant fold = tt
+tensor_meant names part parts (Err r) (Ok v) meant fold = absurd fold
+tensor_meant names part parts (Ok a) (Ok v) meant fold =
+    let rest = fold meant.0 meant.2 in (rest.0, tensor_means part parts meant.1 rest.1, rest.2)
+
+-- a product that does
+product_meant : (names : Names) (part : Factor) (parts : List Factor) (first answer : Answer) → AnswerMeant names part.value first
+    → FoldMeant names first (steps_of_product parts) answer → AnswerMeant names (e.Product (part ∷ parts)) answer
+product_meant names part parts first (Err r) meant fold = tt
+product_meant names part parts (Err r) (Ok v) meant fold = absurd fold
+product_meant names part parts (Ok a) (Ok v) meant fold =
+    let rest = fold meant.0 meant.2 in (rest.0, product_means part parts meant.1 rest.1, rest.2)
+
+-- every evaluation to a value has a meaning, and so have all steps, by induction on both
+mutual
+  pub answer_meant : {names : Names} {x : Expr} {answer : Answer} → AreValues names → Evaluates names x answer → AnswerMeant names x answer
+  answer_meant values (evaluated_number {n = n}) = (number n, number_means, number_alike n)
+  answer_meant values (evaluated_element {basis = basis} {code = code} spells) = (element (row_of basis) code, element_means spells, alike_refl (element (row_of basis) code) (omega arith))
+  answer_meant {names = names} values (known {name = name} {v = v} is) =
+      (reading_of v, name_means is, alike_refl (reading_of v) (known_value names name v values is).canonical.lowest.positive)
+  answer_meant values (unknown is) = tt
+  answer_meant {names = names} values (sum part parts {first = first} {signed = with_sign} {answer = answer} evaluates signs folds) =
+      sum_meant names part parts first with_sign answer (answer_meant values evaluates) signs (fold_meant values folds)
+  answer_meant {names = names} values (tensor_product part parts {first = first} {answer = answer} evaluates folds) =
+      tensor_meant names part parts first answer (answer_meant values evaluates) (fold_meant values folds)
+  answer_meant {names = names} values (evaluated_product part parts {first = first} {answer = answer} evaluates folds) =
+      product_meant names part parts first answer (answer_meant values evaluates) (fold_meant values folds)
+
+  fold_meant : {names : Names} {first answer : Answer} {steps : Steps} → AreValues names → Folds names first steps answer → FoldMeant names first steps answer
+  fold_meant {names = names} values (done {answer = answer}) = done_meant names answer
+  fold_meant values refused = tt
+  fold_meant {names = names} values (step {a = a} {o = o} {x = x} {operand = operand} {next = next} {answer = answer} {steps = steps} evaluates applies folds) =
+      step_meant names a o x steps operand next answer (answer_meant values evaluates) applies (fold_meant values folds)
+
+-- the value of an expression reads as the expression means
+pub meant : (names : Names) (x : Expr) (v : Expansion) → AreValues names → Evaluates names x (Ok v) → IsMeant names x v
+meant names x v values evaluates =
+    let found : (r : Reading) × Means names x r × Alike (reading_of v) r = answer_meant values evaluates in
+    record {
+      meaning = found.0;
+      means = found.1;
+      reads = λ ps long. found.2.agree ps (long ∙ sym (length-kinds v.bases));
+    }

@@ -1,0 +1,34 @@
+-- What evaluation asks of an expression, and every statement of the grammar in which nothing is refused has.
+use Rattle.std.specs.Prelude.{ℕ, ◌^◌, ◌<◌, List, [], ◌∷◌}
+use Rattle.basis_names.specs.declared.bases.BasisId.{BasisId as BasisName}
+use Rattle.hopf_laws.specs.declared.bases.BasisId.{BasisId}
+use Rattle.session_tokens.specs.declared.lexeme.Lexeme.{Lexeme}
+use Rattle.session_evaluation.specs.Elements.{Spells}
+use Rattle.session_grammar.specs.declared.expression.Expr.{Expr}
+use Rattle.session_grammar.specs.declared.expression.Expr.TheVariants as e
+use Rattle.session_grammar.specs.declared.expression.Factor.{Factor}
+use Rattle.session_grammar.specs.declared.expression.Signed.{Signed}
+use Rattle.session_grammar.specs.declared.expression.Statement.{Statement}
+use Rattle.session_grammar.specs.declared.expression.Statement.TheVariants as s
+use Rattle.session_evaluation.specs.declared.operator.Operator.{Operator}
+use Rattle.session_evaluation.specs.Evaluation.{Steps, steps_of_sum, steps_of_tensor, steps_of_product}
+
+-- its forms are built, its numbers are below 2^127, its lists spell indices, and sums, tensors and products have a part
+mutual
+  pub data IsBuilt : Expr → Type 0 where
+    built_number : {n : ℕ} → n < 2 ^ 127 → IsBuilt (e.Number n)
+    built_element : {b : BasisName} {items : List Lexeme} {basis : BasisId} {code : List ℕ} → Spells b items basis code → IsBuilt (e.Element b items)
+    built_name : {name : List ℕ} → IsBuilt (e.Named name)
+    built_sum : (part : Signed) (parts : List Signed) → IsBuilt part.value → AreBuilt (steps_of_sum parts) → IsBuilt (e.Sum (part ∷ parts))
+    built_tensor : (part : Expr) (parts : List Expr) → IsBuilt part → AreBuilt (steps_of_tensor parts) → IsBuilt (e.Tensor (part ∷ parts))
+    built_product : (part : Factor) (parts : List Factor) → IsBuilt part.value → AreBuilt (steps_of_product parts) → IsBuilt (e.Product (part ∷ parts))
+
+  pub data AreBuilt : Steps → Type 0 where
+    no_steps : AreBuilt []
+    built_step : {o : Operator} {x : Expr} {steps : Steps} → IsBuilt x → AreBuilt steps → AreBuilt ((o, x) ∷ steps)
+
+-- a statement that is evaluated
+pub data IsBuiltStatement : Statement → Type 0 where
+  nothing : IsBuiltStatement s.Empty
+  printed : {x : Expr} → IsBuilt x → IsBuiltStatement (s.Print x)
+  assigned : {name : List ℕ} {x : Expr} → IsBuilt x → IsBuiltStatement (s.Assign name x)

@@ -1,0 +1,19 @@
+-- Laws of meanings.
+use Rattle.std.specs.Prelude.{◌≡◌, ℕ, List, Ok, length}
+use Rattle.linear_combos.specs.Readings.{Reading, AgreeAt}
+use Rattle.hopf_laws.specs.Values.{Expansion}
+use Rattle.session_grammar.specs.declared.expression.Expr.{Expr}
+use Rattle.session_evaluation.specs.Built.{IsBuilt}
+use Rattle.session_evaluation.specs.Evaluation.{Evaluates}
+use Rattle.session_evaluation.specs.Meaning.{Means}
+use Rattle.session_evaluation.specs.Names.{Names, AreValues}
+
+-- an expression means one reading
+abbrev pub OneMeaning : Type 0
+OneMeaning = (names : Names) (x : Expr) (r s : Reading) → Means names x r → Means names x s → r ≡ s
+
+-- expressions that mean the same, and have values over the same bases, have the same value, whatever bases their parts were entered in
+abbrev pub SameMeaning : Type 0
+SameMeaning = (names names' : Names) (x y : Expr) (v w : Expansion) (r s : Reading) → AreValues names → AreValues names' → IsBuilt x → IsBuilt y
+    → Evaluates names x (Ok v) → Evaluates names' y (Ok w) → Means names x r → Means names' y s
+    → v.bases ≡ w.bases → ((ps : List (List ℕ)) → length ps ≡ length v.bases → AgreeAt r s ps) → v ≡ w

@@ -1,0 +1,69 @@
+-- What an expression means: a reading, whatever bases its parts were entered in.
+use Rattle.std.specs.Prelude.{◌≡◌, ℕ, pos, negsuc, Bool, List, [], ◌∷◌, ◌||◌, Some, length, nat_eq, if◌then◌else◌}
+use Rattle.hopf_num.specs.Fractions.{Ratio, reciprocal}
+use Rattle.linear_combos.specs.Readings.{Reading, leaf, element, product, tensor, sum_of, multiple, kinds_of, numerator, denominator, AgreeAt}
+use Rattle.basis_names.specs.declared.bases.BasisId.{BasisId as BasisName}
+use Rattle.hopf_laws.specs.declared.bases.BasisId.{BasisId}
+use Rattle.session_tokens.specs.declared.lexeme.Lexeme.{Lexeme}
+use Rattle.session_evaluation.specs.Elements.{Spells}
+use Rattle.hopf_laws.specs.Bases.{row_of}
+use Rattle.hopf_laws.specs.Values.{Expansion, reading_of}
+use Rattle.session_grammar.specs.declared.expression.Expr.{Expr}
+use Rattle.session_grammar.specs.declared.expression.Expr.TheVariants as e
+use Rattle.session_grammar.specs.declared.expression.Factor.{Factor}
+use Rattle.session_grammar.specs.declared.expression.Signed.{Signed}
+use Rattle.session_evaluation.specs.declared.operator.Operator.{Operator}
+use Rattle.session_evaluation.specs.declared.operator.Operator.TheVariants.{Plus, Minus, Hash, Times, Over}
+use Rattle.session_evaluation.specs.Names.{Names, value_of}
+use Rattle.session_evaluation.specs.Evaluation.{Steps, steps_of_sum, steps_of_tensor, steps_of_product}
+
+-- a number, which has no component
+abbrev pub number : ℕ → Reading
+number n = leaf [] 1 ((pos n, []) ∷ [])
+
+abbrev pub negative : Reading → Reading
+negative a = multiple (negsuc 0) 1 a
+
+-- the number that a reading without components is
+abbrev pub ratio : Reading → Ratio
+ratio a = record { num = numerator a []; den = denominator a }
+
+abbrev pub is_scalar : Reading → Bool
+is_scalar a = nat_eq (length (kinds_of a)) 0
+
+-- the meaning of an operation; a product with a scalar is the tensor product, and a quotient the multiple by the reciprocal of the divisor
+abbrev pub combined : Operator → Reading → Reading → Reading
+combined Plus a b = sum_of a b
+combined Minus a b = sum_of a (negative b)
+combined Hash a b = tensor a b
+combined Times a b = if is_scalar a || is_scalar b then tensor a b else product a b
+combined Over a b = multiple (reciprocal (ratio b)).num (reciprocal (ratio b)).den a
+
+-- the first part of a sum, with its sign
+abbrev pub signed : Bool → Reading → Reading
+signed minus a = if minus then negative a else a
+
+-- An expression means a reading, in the names of a session.
+mutual
+  pub data Means (names : Names) : Expr → Reading → Type 0 where
+    number_means : {n : ℕ} → Means names (e.Number n) (number n)
+    element_means : {b : BasisName} {items : List Lexeme} {basis : BasisId} {code : List ℕ} → Spells b items basis code → Means names (e.Element b items) (element (row_of basis) code)
+    name_means : {name : List ℕ} {v : Expansion} → value_of names name ≡ Some v → Means names (e.Named name) (reading_of v)
+    sum_means : (part : Signed) (parts : List Signed) {first whole : Reading} → Means names part.value first
+        → Combine names (signed part.minus first) (steps_of_sum parts) whole → Means names (e.Sum (part ∷ parts)) whole
+    tensor_means : (part : Expr) (parts : List Expr) {first whole : Reading} → Means names part first
+        → Combine names first (steps_of_tensor parts) whole → Means names (e.Tensor (part ∷ parts)) whole
+    product_means : (part : Factor) (parts : List Factor) {first whole : Reading} → Means names part.value first
+        → Combine names first (steps_of_product parts) whole → Means names (e.Product (part ∷ parts)) whole
+
+  -- operations combine readings from left to right
+  pub data Combine (names : Names) : Reading → Steps → Reading → Type 0 where
+    combined_all : {whole : Reading} → Combine names whole [] whole
+    combine : {a b whole : Reading} {o : Operator} {x : Expr} {steps : Steps} → Means names x b
+        → Combine names (combined o a b) steps whole → Combine names a ((o, x) ∷ steps) whole
+
+-- a value reads, at every tuple of points, as the expression means
+pub record IsMeant (names : Names) (x : Expr) (v : Expansion) : Type 0 where
+  pub meaning : Reading
+  pub means : Means names x meaning
+  pub reads : (ps : List (List ℕ)) → length ps ≡ length v.bases → AgreeAt (reading_of v) meaning ps

@@ -1,7 +1,0 @@
-use Rattle.std.proofs.Common.{◌≡◌, ◌++◌, ◌-◌, drop}
-use Rattle.session_lang.specs.Text.{key_text, later_elements_text}
-use Rattle.session_lang.proofs.printing.append_key.Given as goal
-
-abbrev pub invariant-loop-component : goal.invariant-loop-component
-invariant-loop-component l =
-    l.out ++ later_elements_text (drop (l.component - 1) l.bases) (drop (l.component - 1) l.key) ≡ l.fn.out ++ key_text l.bases l.key

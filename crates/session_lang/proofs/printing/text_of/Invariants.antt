@@ -1,8 +1,0 @@
-use Rattle.std.proofs.Common.{ℕ, ◌++◌, List, drop}
-use Rattle.session_lang.specs.Text.{AreLaterTerms, IsTextOf}
-use Rattle.session_lang.proofs.printing.text_of.Given as goal
-
-abbrev pub invariant-loop-place : goal.invariant-loop-place
-invariant-loop-place l =
-    (later : List ℕ) → AreLaterTerms l.value.bases l.value.combination.den (drop l.place l.value.combination.terms) later
-    → IsTextOf l.value (l.text ++ later)

@@ -1,8 +1,0 @@
-use Rattle.std.proofs.Common.{◌≤◌, ◌+◌, length, arith}
-use Rattle.session_lang.proofs.LexemesOfTokens.{lexemes_of-all}
-use Rattle.session_lang.proofs.reading.lexemes_of.Goals as goal
-
-pub returns : goal.returns
-returns c =
-    let past : length c.args.tokens.now ≤ c.loop-place.place + 1 = omega (arith, c.saturating_sub-place-end.ensures, c.loop-place-test.false) in
-    lexemes_of-all c.args.text.now c.args.tokens.now c.loop-place.place c.loop-place.lexemes.items past c.loop-place.invariant

@@ -1,6 +1,0 @@
-use Rattle.std.proofs.Common.{◌≡◌, ◌++◌, drop}
-use Rattle.session_lang.specs.Lexemes.{lexemes_of}
-use Rattle.session_lang.proofs.reading.lexemes_of.Given as goal
-
-abbrev pub invariant-loop-place : goal.invariant-loop-place
-invariant-loop-place l = lexemes_of l.text l.tokens ≡ l.lexemes.items ++ lexemes_of l.text (drop l.place l.tokens)

@@ -1,9 +1,0 @@
-pub mod Faults
-pub mod Grammar
-pub mod Laws
-pub mod Lexemes
-pub mod ListStates
-pub mod ParserSteps
-pub mod Parses
-pub mod Text
-pub mod Tokens
