@@ -6,8 +6,6 @@ mod checks;
 mod joins;
 mod refusal;
 mod rules;
-#[cfg(test)]
-mod tests;
 mod value;
 
 pub use bases::Bases;

@@ -4,8 +4,6 @@
 mod composition;
 mod laws;
 mod products;
-#[cfg(test)]
-mod tests;
 
 pub use composition::Composition;
 pub use laws::existence_law;

@@ -12,8 +12,6 @@ mod memory_source;
 mod sink;
 mod source;
 mod standard;
-#[cfg(test)]
-mod tests;
 
 pub use bytes::{Bytes, Calls};
 pub use memory_sink::MemorySink;

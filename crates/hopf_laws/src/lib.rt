@@ -6,8 +6,6 @@
 
 mod bases;
 mod laws;
-#[cfg(test)]
-mod tests;
 
 pub use bases::{AlgebraId, BasisId, algebra, limit};
 pub use laws::uniqueness_law;

@@ -11,8 +11,6 @@ mod divisors;
 mod fraction;
 mod memory;
 mod room;
-#[cfg(test)]
-mod tests;
 
 pub use checked::{product, quotient};
 pub use divisors::{gcd, lcm};

@@ -10,8 +10,6 @@ mod laws;
 mod multiples;
 mod products;
 mod sums;
-#[cfg(test)]
-mod tests;
 
 pub use laws::existence_law;
 pub use multiples::{divide, negate};

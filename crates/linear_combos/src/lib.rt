@@ -14,8 +14,6 @@ mod lowest;
 mod merge;
 mod tensor;
 mod terms;
-#[cfg(test)]
-mod tests;
 
 pub use code::Code;
 pub use codes::Codes;

@@ -1,4 +1,5 @@
-use super::*;
+//! Tests of fractions and of the room that numbers have.
+use hopf_num::{Fraction, fits};
 
 #[test]
 fn fits_below_the_limit(rt: HostRuntime) {

@@ -1,5 +1,6 @@
-use super::*;
-use hopf_laws::{AlgebraId, BasisId};
+//! Tests of values, of their checks and of the rules on their indices.
+use basis_routes::{Check, Refusal, Value, is_index, join};
+use hopf_laws::{AlgebraId, BasisId, algebra, limit};
 use hopf_num::{Fraction, Need};
 use linear_combos::Code;
 use std::alloc::Global;
@@ -16,6 +17,13 @@ fn monomial(alloc: Global, parts: &[u8]) -> Result<Value, Fail> {
         return Err(Fail::from("no index"));
     }
     Ok(Value::element(alloc, BasisId::QsymM, code)?)
+}
+
+/// The tables of the bases.
+#[test]
+fn tables(rt: HostRuntime) {
+    assert_eq!(rt; algebra(BasisId::QsymM), AlgebraId::Qsym);
+    assert_eq!(rt; limit(AlgebraId::Qsym), 10);
 }
 
 /// Which codes are indices: the degree limit is part of the test.
@@ -37,43 +45,38 @@ fn indices_within_the_limit(rt: HostRuntime) -> Result<(), Fail> {
     Ok(())
 }
 
-/// Each call of a value that can want memory, and what it reads of it.
+/// Whether the value has this rank, this total degree and this number of terms.
+fn has_size(value: &Value, rank: u32, degree: u32, terms: usize) -> bool {
+    value.rank() == rank && value.degree() == degree && value.combo().len() == terms
+}
+
+/// Whether the scalar of a fraction reads as another one.
+fn reads_as(alloc: Global, num: i128, den: i128, lowest: (i128, i128)) -> Result<bool, Fail> {
+    let number = Fraction::new(num, den).map_err(|_| "no fraction")?;
+    let value = Value::scalar(alloc, &number)?;
+    let read = value
+        .as_fraction()
+        .map(|number| (number.num(), number.den()));
+    Ok(read == Some(lowest))
+}
+
+/// Scalars and the fractions that they are.
 #[test]
-fn values_with_ample_memory(rt: HostRuntime) -> Result<(), Fail> {
-    let number = Fraction::new(-2, 6).map_err(|_| "no fraction")?;
-    let scalar = Value::scalar(rt.alloc(), &number)?;
-    assert_eq!(rt; (scalar.rank(), scalar.degree()), (0, 0));
-    assert_eq!(rt; scalar.as_fraction(), Some(number));
-    assert_eq!(rt; (scalar.combo().num_at(0), scalar.combo().den()), (-1, 3));
-
-    let zero = Value::scalar(rt.alloc(), &Fraction::new(0, 5).map_err(|_| "no fraction")?)?;
-    assert_eq!(rt; zero.combo().len(), 0);
-    assert_eq!(rt;
-        zero.as_fraction()
-            .map(|number| (number.num(), number.den())),
-        Some((0, 1))
-    );
-
-    let element = monomial(rt.alloc(), &[2, 1])?;
-    assert_eq!(rt; (element.rank(), element.degree()), (1, 3));
-    assert_eq!(rt; element.basis(1), BasisId::QsymM);
-    assert!(rt; element.as_fraction().is_none());
-    let copy = element.copy(rt.alloc())?;
-    assert_eq!(rt; copy.combo().len(), 1);
-    assert!(rt; copy.combo().key_at(0) == element.combo().key_at(0));
+fn scalars(rt: HostRuntime) -> Result<(), Fail> {
+    assert!(rt; reads_as(rt.alloc(), -2, 6, (-1, 3))?);
+    assert!(rt; reads_as(rt.alloc(), 0, 5, (0, 1))?);
     Ok(())
 }
 
-/// The product of two basis elements.
+/// An element and its copy.
 #[test]
-fn products_of_elements(rt: HostRuntime) -> Result<(), Fail> {
-    let one = code(rt.alloc(), &[1])?;
-    if !is_index(BasisId::QsymM, &one) || one.sum() > 5 {
-        return Err(Fail::from("no index within half the limit"));
-    }
-    let square = product_of(rt.alloc(), BasisId::QsymM, &one, &one)?;
-    assert_eq!(rt; square.len(), 2);
-    assert_eq!(rt; (square.num_at(0), square.num_at(1)), (2, 1));
+fn elements(rt: HostRuntime) -> Result<(), Fail> {
+    let element = monomial(rt.alloc(), &[2, 1])?;
+    assert!(rt; has_size(&element, 1, 3, 1));
+    assert_eq!(rt; element.rank(), 1);
+    assert_eq!(rt; element.basis(1), BasisId::QsymM);
+    assert!(rt; element.as_fraction().is_none());
+    assert!(rt; has_size(&element.copy(rt.alloc())?, 1, 3, 1));
     Ok(())
 }
 
@@ -112,5 +115,4 @@ fn checks_that_fail(rt: HostRuntime) {
         Ok(())
     );
     assert_eq!(rt; Check::RankWithin { rank: 3 }.test(), Ok(()));
-    assert_eq!(rt; hopf_laws::algebra(BasisId::QsymM), AlgebraId::Qsym);
 }

@@ -1,4 +1,7 @@
-use super::*;
+//! Tests of sources and sinks, in memory and of the process.
+use hopf_io::{
+    Bytes, Calls, Failed, MemorySink, MemorySource, Sink, Source, StdSink, StdSource, send_all,
+};
 use std::test::Fail;
 
 /// What each call that can want memory answers with ample memory.
