@@ -1,4 +1,5 @@
 pub mod Degrees
 pub mod Indices
+pub mod JoinedKinds
 pub mod Rows
 pub mod RulesExist

@@ -1,11 +1,11 @@
 -- Rows of checks, tested part by part.
 use Rattle.std.proofs.Common.{◌≡◌, ◌⊎◌, suc, List, [], ◌∷◌, ◌++◌, Result, Ok, Err, inl, inr, refl, sym, ap, subst, arith}
 use Rattle.std.specs.Prelude.{All}
-use Rattle.std.proofs.lemmas.List.Elements.{All-append, All-cons}
+use Rattle.std.proofs.lemmas.List.Elements.{All-append, All-nil, All-cons, All-head, All-tail}
 use Rattle.hopf_num.specs.declared.room.Need.{Need}
 use Rattle.hopf_num.specs.Room.{HasRoom, IsFirstWithoutRoom}
 use Rattle.basis_routes.specs.declared.refusal.Refusal.{Refusal}
-use Rattle.basis_routes.specs.declared.refusal.Refusal.TheVariants.{TooLarge, Memory}
+use Rattle.basis_routes.specs.declared.refusal.Refusal.TheVariants.{TooLarge}
 use Rattle.basis_routes.specs.declared.checks.Check.{Check}
 use Rattle.basis_routes.specs.declared.checks.Check.TheVariants.{Room}
 use Rattle.basis_routes.specs.Checks.{Passes, IsFirstFailing, IsRefusalOf, Tests, room_checks}
@@ -66,3 +66,9 @@ last_passes (first ∷ checks) check h = last_passes checks check h.1
 -- the last check of a row that passes
 pub passes_last : (checks : List Check) (check : Check) → All Passes (checks ++ check ∷ []) → Passes check
 passes_last checks check h = last_passes checks check (all_pass (checks ++ check ∷ []) h)
+
+-- the earlier checks of a row that passes
+pub passes_earlier : (checks later : List Check) → All Passes (checks ++ later) → All Passes checks
+passes_earlier [] later h = All-nil Passes
+passes_earlier (check ∷ checks) later h =
+    All-cons Passes check checks (All-head Passes check (checks ++ later) h) (passes_earlier checks later (All-tail Passes check (checks ++ later) h))

@@ -2,7 +2,7 @@
 use Rattle.std.specs.Prelude.{◌≡◌, ◌≢◌, ℕ, ◌≤◌, ◌⊎◌, ℤ, pos, List, [], ◌∷◌, map, All, IsSome, Result, MatchResult}
 use Rattle.hopf_num.specs.declared.room.Need.{Need}
 use Rattle.hopf_num.specs.Room.{HasRoom, IsNeed}
-use Rattle.hopf_laws.specs.Bases.{algebra_of}
+use Rattle.basis_names.specs.Bases.{algebra_of}
 use Rattle.basis_routes.specs.declared.refusal.Refusal.{Refusal}
 use Rattle.basis_routes.specs.declared.refusal.Refusal.TheVariants.{Rank, NotScalar, ZeroDivisor, Mixed, Degree, TooLarge, Memory}
 use Rattle.basis_routes.specs.declared.checks.Check.{Check}

@@ -1,6 +1,6 @@
 -- The bases of sums and products.
 use Rattle.std.specs.Prelude.{List, [], ◌∷◌, unwrap_or}
-use Rattle.hopf_laws.specs.declared.bases.BasisId.{BasisId}
+use Rattle.basis_names.specs.declared.bases.BasisId.{BasisId}
 use Rattle.basis_routes.specs.declared.checks.Check.{Check}
 use Rattle.basis_routes.specs.declared.checks.Check.TheVariants.{Joined}
 use Rattle.basis_routes.specs.JoinTable.{join_of}

@@ -1,6 +1,6 @@
 -- A list of bases as it is held.
 use Rattle.std.specs.Prelude.{List, [], ◌∷◌}
-use Rattle.hopf_laws.specs.declared.bases.BasisId.{BasisId}
+use Rattle.basis_names.specs.declared.bases.BasisId.{BasisId}
 use Rattle.basis_routes.specs.declared.bases.Held.{Held}
 use Rattle.basis_routes.specs.declared.bases.Held.TheVariants.{None, One, Two, Three}
 

@@ -1,9 +1,12 @@
 -- Indices of a basis.
-use Rattle.std.specs.Prelude.{ℕ, ◌≤◌, List}
-use Rattle.linear_combos.specs.Indices.{IsIndex, degree_of}
-use Rattle.hopf_laws.specs.declared.bases.BasisId.{BasisId}
-use Rattle.hopf_laws.specs.Bases.{row_of, algebra_of, limit_of}
+use Rattle.std.specs.Prelude.{ℕ, ◌≤◌, IsTrue, List}
+use Rattle.basis_names.specs.declared.bases.BasisId.{BasisId}
+use Rattle.basis_names.specs.Bases.{algebra_of, limit_of}
+use Rattle.built_bases.specs.Table.{is_built}
+use Rattle.realisations.specs.Indices.{IsIndex, degree_of}
 
--- an index within the degree limit of the algebra
-abbrev pub IsIndexWithin : BasisId → List ℕ → Type 0
-IsIndexWithin basis code = IsIndex (row_of basis) code × (degree_of (row_of basis) code ≤ limit_of (algebra_of basis))
+-- an index of a built basis within the degree limit of its algebra
+pub record IsIndexWithin (basis : BasisId) (code : List ℕ) : Type 0 where
+  pub built : IsTrue (is_built basis)
+  pub index : IsIndex basis code
+  pub degree : degree_of basis code ≤ limit_of (algebra_of basis)

@@ -1,7 +1,7 @@
 //! Lists of bases.
 ghost use Rattle.std.specs.Prelude.{◌≡◌, ◌+◌, ◌≤◌, ◌-◌, ◌++◌, ℕ, List, length, slice_index_or, IfOk};
-ghost use Rattle.linear_combos.specs.Indices.{total_degree};
-ghost use Rattle.hopf_laws.specs.Bases.{rows_of, least_limit};
+ghost use Rattle.realisations.specs.Indices.{total_degree};
+ghost use Rattle.hopf_laws.specs.Bases.{least_limit};
 ghost use Rattle.basis_routes.specs.Checks.{Tests};
 ghost use Rattle.basis_routes.specs.Joins.{joined, join_checks};
 ghost use Rattle.basis_routes.specs.Lists.{bases_of};
@@ -30,7 +30,7 @@ pub struct Bases {
 
 impl Model for Bases {
     ghost use Rattle.std.specs.Prelude.{◌≤◌, List, length};
-    ghost use Rattle.hopf_laws.specs.declared.bases.BasisId.{BasisId};
+    ghost use Rattle.basis_names.specs.declared.bases.BasisId.{BasisId};
     ghost use Rattle.basis_routes.specs.Lists.{bases_of};
 
     ghost Value = { List BasisId };
@@ -131,8 +131,8 @@ impl Bases {
     // The sum of the degrees of the codes of a key.
     pub(crate) fn degree_of_key(&self, key: &Key) -> u32
         requires rank { length key.now ≡ length self.now }
-        requires small { total_degree (rows_of self.now) key.now ≤ 255 }
-        ensures { result ≡ total_degree (rows_of self.now) key.now }
+        requires small { total_degree self.now key.now ≤ 255 }
+        ensures { result ≡ total_degree self.now key.now }
     {
         match self.held {
             Held::None => 0,

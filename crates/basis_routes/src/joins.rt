@@ -1,19 +1,54 @@
 //! The basis of a sum or a product of elements over two bases.
 ghost use Rattle.std.specs.Prelude.{◌≡◌, [], ◌∷◌, IfOk, unwrap_or};
 ghost use Rattle.basis_routes.specs.declared.checks.Check.TheVariants.{Joined};
+ghost use Rattle.realisations.specs.Bases.{has_words, lies_in};
 ghost use Rattle.basis_routes.specs.Checks.{Tests};
 ghost use Rattle.basis_routes.specs.JoinTable.{join_of};
 
 use crate::Refusal;
-use hopf_laws::{BasisId, algebra};
+use hopf_laws::{AlgebraId, BasisId, algebra};
 
 /// The basis over which elements of two bases are added and multiplied, or `None` where their
-/// algebras have no common one. Of two bases of one algebra it is the left one.
+/// algebras have no common one. Of two bases of one algebra it is the left one, and of an algebra
+/// inside another one the basis of the larger.
 pub fn join(left: BasisId, right: BasisId) -> Option<BasisId>
     ensures { result ≡ join_of left right }
 {
-    match (left, right) {
-        (BasisId::QsymM, BasisId::QsymM) => Some(BasisId::QsymM),
+    let lefts = algebra(left);
+    let rights = algebra(right);
+    if is_inside(rights, lefts) {
+        Some(left)
+    } else if is_inside(lefts, rights) {
+        Some(right)
+    } else if is_of_words(lefts) && is_of_words(rights) {
+        Some(BasisId::FqsymF)
+    } else {
+        None
+    }
+}
+
+// Whether it is an algebra of words.
+fn is_of_words(algebra: AlgebraId) -> bool
+    ensures { result ≡ has_words algebra }
+{
+    match algebra {
+        AlgebraId::Qsym => false,
+        AlgebraId::Ncsf | AlgebraId::Fqsym | AlgebraId::Wqsym | AlgebraId::Fsym | AlgebraId::Pbt =>
+            true,
+    }
+}
+
+// Whether the first algebra lies in the second, or is the same.
+fn is_inside(inner: AlgebraId, outer: AlgebraId) -> bool
+    ensures { result ≡ lies_in inner outer }
+{
+    match inner {
+        AlgebraId::Qsym => matches!(outer, AlgebraId::Qsym),
+        AlgebraId::Ncsf => !matches!(outer, AlgebraId::Qsym),
+        AlgebraId::Fsym => matches!(outer, AlgebraId::Fsym | AlgebraId::Fqsym | AlgebraId::Wqsym),
+        AlgebraId::Pbt => matches!(outer, AlgebraId::Pbt | AlgebraId::Fqsym | AlgebraId::Wqsym),
+        AlgebraId::Fqsym => matches!(outer, AlgebraId::Fqsym | AlgebraId::Wqsym),
+        AlgebraId::Wqsym => matches!(outer, AlgebraId::Wqsym),
     }
 }
 

@@ -1,9 +1,10 @@
 //! The choice of the rules on indices by a basis.
 ghost use Rattle.std.specs.Prelude.{◌≡◌, ◌+◌, ◌≤◌, ◌↔◌, [], ◌∷◌, IsTrue, IfOk};
-ghost use Rattle.linear_combos.specs.Answers.{IsAnswer};
-ghost use Rattle.linear_combos.specs.Indices.{IsIndex, degree_of};
-ghost use Rattle.linear_combos.specs.Readings.{element, product};
-ghost use Rattle.hopf_laws.specs.Bases.{row_of, algebra_of, limit_of};
+ghost use Rattle.realisations.specs.Answers.{IsAnswer};
+ghost use Rattle.realisations.specs.Indices.{IsIndex, degree_of};
+ghost use Rattle.realisations.specs.Readings.{element, product};
+ghost use Rattle.basis_names.specs.Bases.{algebra_of, limit_of};
+ghost use Rattle.built_bases.specs.Table.{is_built};
 ghost use Rattle.basis_routes.specs.Rules.{IsIndexWithin};
 
 use compositions::{Composition, quasi_shuffle};
@@ -14,23 +15,36 @@ use std::alloc::Global;
 
 // The degree of an index, by its code.
 pub(crate) fn degree_of_code(basis: BasisId, code: &Code) -> u32
-    ensures { result ≡ degree_of (row_of basis) code.now }
+    ensures { result ≡ degree_of basis code.now }
 {
     match basis {
-        BasisId::QsymM => code.sum(),
+        BasisId::QsymM | BasisId::QsymF | BasisId::NcsfS | BasisId::NcsfL | BasisId::NcsfR =>
+            code.sum(),
+        BasisId::FqsymF | BasisId::FqsymG | BasisId::WqsymM | BasisId::FsymS | BasisId::PbtP =>
+            code.len() as u32,
     }
 }
 
-/// Whether the code is that of an index of the basis within the degree limit of its algebra.
+/// Whether the code is that of an index of the basis within the degree limit of its algebra. A basis
+/// that is not built has none.
 pub fn is_index(basis: BasisId, code: &Code) -> bool
     ensures { IsTrue result ↔ IsIndexWithin basis code.now }
 {
     match basis {
         BasisId::QsymM => code.sum() <= limit(algebra(basis)),
+        BasisId::QsymF
+        | BasisId::NcsfS
+        | BasisId::NcsfL
+        | BasisId::NcsfR
+        | BasisId::FqsymF
+        | BasisId::FqsymG
+        | BasisId::WqsymM
+        | BasisId::FsymS
+        | BasisId::PbtP => false,
     }
 }
 
-/// The product of two basis elements, as a combination over the same basis. The cost is that of the
+/// The product of two elements of a built basis, as a combination over the same basis. The cost is that of the
 /// rule of the basis.
 pub fn product_of(
     alloc: Global,
@@ -38,11 +52,12 @@ pub fn product_of(
     left: &Code,
     right: &Code,
 ) -> Result<Combo, OutOfMemory>
-    requires left { IsIndex (row_of basis) left.now }
-    requires right { IsIndex (row_of basis) right.now }
-    requires degree { degree_of (row_of basis) left.now + degree_of (row_of basis) right.now ≤ limit_of (algebra_of basis) }
-    ensures { IfOk result (IsAnswer (row_of basis ∷ []) (degree_of (row_of basis) left.now + degree_of (row_of basis) right.now)
-        (product (element (row_of basis) left.now) (element (row_of basis) right.now))) }
+    requires built { IsTrue (is_built basis) }
+    requires left { IsIndex basis left.now }
+    requires right { IsIndex basis right.now }
+    requires degree { degree_of basis left.now + degree_of basis right.now ≤ limit_of (algebra_of basis) }
+    ensures { IfOk result (IsAnswer (basis ∷ []) (degree_of basis left.now + degree_of basis right.now)
+        (product (element basis left.now) (element basis right.now))) }
 {
     match basis {
         BasisId::QsymM => {
@@ -50,5 +65,14 @@ pub fn product_of(
             let right = Composition::new(alloc, right.as_slice()).unwrap();
             quasi_shuffle(alloc, &left, &right)
         }
+        BasisId::QsymF
+        | BasisId::NcsfS
+        | BasisId::NcsfL
+        | BasisId::NcsfR
+        | BasisId::FqsymF
+        | BasisId::FqsymG
+        | BasisId::WqsymM
+        | BasisId::FsymS
+        | BasisId::PbtP => unreachable!(),
     }
 }

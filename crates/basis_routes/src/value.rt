@@ -1,6 +1,6 @@
 //! Values: canonical combinations over a list of bases.
 ghost use Rattle.std.specs.Prelude.{◌≡◌, ◌≢◌, ◌≤◌, ◌-◌, ◌*ℤ◌, ◌↔◌, pos, [], ◌∷◌, length, slice_index_or, IfOk, MatchOption};
-ghost use Rattle.hopf_laws.specs.Values.{Expansion, IsValue, Expands, reading_of, ratio_of, degree_of_value};
+ghost use Rattle.hopf_laws.specs.Values.{Expansion, IsValue, ratio_of, degree_of_value};
 ghost use Rattle.basis_routes.specs.Rules.{IsIndexWithin};
 
 use crate::Bases;

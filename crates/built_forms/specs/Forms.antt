@@ -4,9 +4,9 @@ use Rattle.built_bases.specs.Table.{is_built as is_built_basis}
 use Rattle.session_tokens.specs.declared.lexeme.Linear.{Linear}
 use Rattle.session_tokens.specs.declared.lexeme.Linear.TheVariants.{Coproduct, Antipode, Counit, Mult, Commute}
 use Rattle.session_tokens.specs.declared.lexeme.Lexeme.{Lexeme}
-use Rattle.session_tokens.specs.declared.lexeme.Lexeme.TheVariants as lex
 use Rattle.built_forms.specs.declared.form.Form.{Form}
 use Rattle.built_forms.specs.declared.form.Form.TheVariants.{Basis, Conversion, Linear as Map, Pairing, Along, Equality}
+use Rattle.session_tokens.specs.declared.lexeme.Lexeme.TheVariants as lex
 
 -- whether a linear function is built
 abbrev pub is_built_map : Linear → Bool

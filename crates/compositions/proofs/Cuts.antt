@@ -2,16 +2,17 @@
 use Rattle.std.proofs.Common.{◌≡◌, ℕ, zero, suc, ◌+◌, ◌*◌, ◌<◌, List, [], ◌∷◌, ◌++◌, map, refl, ◌∙◌, ap, arith, zero-add, add-zero, Bool, true, false, ◌&&◌}
 use Rattle.std.specs.Prelude.{nat_eq, if◌then◌else◌}
 use Rattle.std.proofs.Math.Dec.{eqb-suc-zero, eqb-zero-suc, eqb-suc-suc}
-use Rattle.linear_combos.specs.Indices.{IsComposition}
-use Rattle.linear_combos.specs.Lists.{same_list, one_if}
-use Rattle.linear_combos.specs.Exponents.{number_cuts, exponent_cuts, without_zeros}
-use Rattle.linear_combos.specs.Rows.{qsym_m, occurs}
-use Rattle.linear_combos.proofs.Sums.{sums, sums-append, sums-map, sums-flat_map, sums_same, sums-add, sums_none, sums_four, one_if_same, over_cuts, over_cuts_single}
+use Rattle.realisations.specs.IndexKinds.{IsComposition}
+use Rattle.realisations.specs.Lists.{same_list, one_if}
+use Rattle.realisations.specs.Exponents.{number_cuts, exponent_cuts, without_zeros}
+use Rattle.basis_names.specs.declared.bases.BasisId.TheVariants.{QsymM}
+use Rattle.realisations.specs.Occurrence.{occurs}
+use Rattle.realisations.proofs.Sums.{sums, sums-append, sums-map, sums-flat_map, sums_same, sums-add, sums_none, sums_four, one_if_same, over_cuts, over_cuts_single}
 use Rattle.compositions.specs.QuasiShuffles.{quasi_shuffles}
 
 -- 1 where the monomial function of the composition occurs at the exponents, else 0
 abbrev pub occurs_monomial : List ℕ → List ℕ → ℕ
-occurs_monomial composition p = one_if (occurs qsym_m composition p)
+occurs_monomial composition p = one_if (occurs QsymM composition p)
 
 -- the test of two numbers as 0 or 1
 pub one_if_same_is : (a i : ℕ) → (if nat_eq i a then 1 else 0) ≡ one_if_same a i

@@ -5,12 +5,12 @@ use Rattle.std.proofs.lemmas.Int.{ints}
 use Rattle.std.specs.List.{sum, All}
 use Rattle.std.proofs.lemmas.List.Elements.{All-nil, All-cons, All-append, All-map}
 use Rattle.std.proofs.lemmas.List.Sums.{sum_by-cons}
-use Rattle.linear_combos.specs.Answers.{IsAnswer}
-use Rattle.linear_combos.specs.Combos.{Combination, HasKey, norm_of, term_at, weighed}
-use Rattle.linear_combos.specs.Indices.{IsComposition}
-use Rattle.linear_combos.specs.Lists.{int_sum}
-use Rattle.linear_combos.specs.Readings.{Terms, product, element}
-use Rattle.linear_combos.specs.Rows.{qsym_m}
+use Rattle.realisations.specs.Answers.{IsAnswer}
+use Rattle.realisations.specs.Combinations.{Combination, HasKey, norm_of, term_at, weighed}
+use Rattle.realisations.specs.IndexKinds.{IsComposition}
+use Rattle.realisations.specs.Lists.{int_sum}
+use Rattle.realisations.specs.Readings.{Terms, product, element}
+use Rattle.basis_names.specs.declared.bases.BasisId.TheVariants.{QsymM}
 use Rattle.linear_combos.proofs.Edits.{lowest_one}
 use Rattle.linear_combos.proofs.Gathering.{Gathers, gathered}
 use Rattle.compositions.specs.QuasiShuffles.{quasi_shuffles, AddsShuffles, IsKeyOf}
@@ -83,7 +83,7 @@ adds_gathered j k us hj hk g = record {
 
 -- the product of two elements has a combination that is its answer
 pub product_exists : (j k : List ℕ) → IsComposition j → IsComposition k → sum j + sum k ≤ 12
-    → (c : Combination) × IsAnswer (qsym_m ∷ []) (sum j + sum k) (product (element qsym_m j) (element qsym_m k)) c
+    → (c : Combination) × IsAnswer (QsymM ∷ []) (sum j + sum k) (product (element QsymM j) (element QsymM k)) c
 product_exists j k hj hk le =
     let ws = quasi_shuffles j k in
     let size = norm_of-once ws in

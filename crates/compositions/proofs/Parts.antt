@@ -1,20 +1,19 @@
 -- Compositions as codes, and their quasi-shuffles.
-use Rattle.std.proofs.Common.{◌≡◌, ℕ, zero, suc, ◌+◌, ◌*◌, ◌^◌, ◌<◌, ◌≤◌, Bool, true, false, ◌&&◌, List, [], ◌∷◌, ◌++◌, map, length, inl, inr, refl, subst, sym, ◌∙◌, ap, arith, length-append}
+use Rattle.std.proofs.Common.{◌≡◌, ℕ, zero, suc, ◌+◌, ◌*◌, ◌^◌, ◌<◌, ◌≤◌, Bool, true, false, ◌&&◌, List, [], ◌∷◌, ◌++◌, map, length, inl, inr, refl, subst, sym, ◌∙◌, ap, arith, length-append, take, drop, get_or, append_assoc, ◌-◌}
 use Rattle.std.specs.Prelude.{nat_le}
-use Rattle.std.proofs.Common.{take, drop, get_or, append_assoc, ◌-◌}
 use Rattle.std.proofs.lemmas.List.{length-map}
 use Rattle.std.proofs.Math.Nat.{pow-suc}
 use Rattle.std.proofs.lemmas.Nat.{pow-add}
 use Rattle.std.proofs.Math.IntN.{ℤ, pos, ◌+ℤ◌, ◌*ℤ◌, *ℤ_comm, *ℤ-one, one}
 use Rattle.std.proofs.lemmas.Int.{ints}
-use Rattle.linear_combos.specs.Lists.{int_sum}
-use Rattle.linear_combos.specs.Readings.{Terms}
-use Rattle.linear_combos.specs.Combos.{AddsTerm}
+use Rattle.realisations.specs.Lists.{int_sum}
+use Rattle.realisations.specs.Readings.{Terms}
+use Rattle.realisations.specs.Combinations.{AddsTerm}
 use Rattle.std.specs.List.{sum}
 use Rattle.std.proofs.lemmas.List.Sums.{sum_by-cons, sum_by-append}
 use Rattle.std.proofs.lemmas.Bool.Decides.{nat_tests}
 use Rattle.linear_combos.specs.Codes.{IsCode, all_letters}
-use Rattle.linear_combos.specs.Indices.{IsComposition}
+use Rattle.realisations.specs.IndexKinds.{IsComposition}
 use Rattle.compositions.specs.QuasiShuffles.{quasi_shuffles, AddsShuffles, IsKeyOf}
 
 pub IsComposition-append : (j k : List ℕ) → IsComposition j → IsComposition k → IsComposition (j ++ k)

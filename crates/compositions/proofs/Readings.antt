@@ -2,47 +2,47 @@
 use Rattle.std.proofs.Common.{◌≡◌, ℕ, ◌+◌, ◌*◌, ◌≤◌, List, [], ◌∷◌, map, length, inl, inr, refl, subst, sym, ◌∙◌, ap, arith}
 use Rattle.std.proofs.Math.IntN.{pos, ◌*ℤ◌}
 use Rattle.std.proofs.lemmas.Int.{ints}
-use Rattle.std.specs.List.{flat_map}
-use Rattle.std.specs.List.{sum}
-use Rattle.linear_combos.proofs.OnePoint.{at_one_point}
-use Rattle.linear_combos.specs.Answers.{IsAnswer}
-use Rattle.linear_combos.specs.Combos.{Combination, IsCanonical, HasKey, norm_of}
-use Rattle.linear_combos.specs.Indices.{IsComposition, AreIndices, total_degree}
-use Rattle.linear_combos.specs.Lists.{int_sum}
-use Rattle.linear_combos.specs.Exponents.{exponent_cuts}
-use Rattle.linear_combos.specs.Readings.{Terms, leaf, product, element, numerator, all_cuts, occurrence, AgreeAt}
-use Rattle.linear_combos.specs.Rows.{qsym_m}
-use Rattle.linear_combos.proofs.Sums.{sums}
+use Rattle.std.specs.List.{flat_map, sum}
+use Rattle.realisations.proofs.OnePoint.{at_one_point}
+use Rattle.realisations.specs.Answers.{IsAnswer}
+use Rattle.realisations.specs.Combinations.{Combination, IsCanonical, HasKey, norm_of}
+use Rattle.realisations.specs.IndexKinds.{IsComposition}
+use Rattle.realisations.specs.Indices.{AreIndices, total_degree}
+use Rattle.realisations.specs.Lists.{int_sum}
+use Rattle.realisations.specs.Exponents.{exponent_cuts}
+use Rattle.realisations.specs.Readings.{Terms, leaf, product, element, numerator, all_cuts, occurrence, AgreeAt}
+use Rattle.basis_names.specs.declared.bases.BasisId.TheVariants.{QsymM}
+use Rattle.realisations.proofs.Sums.{sums}
 use Rattle.compositions.specs.QuasiShuffles.{quasi_shuffles, AddsShuffles, IsKeyOf}
 use Rattle.compositions.proofs.Parts.{length-le-sum, shuffles_small}
 use Rattle.compositions.proofs.Cuts.{occurs_monomial, shuffled, cut_sum, shuffled_is}
 
 -- one element at one point
-element_at : (j p : List ℕ) → numerator (element qsym_m j) (p ∷ []) ≡ pos (occurs_monomial j p)
+element_at : (j p : List ℕ) → numerator (element QsymM j) (p ∷ []) ≡ pos (occurs_monomial j p)
 element_at j p = ap pos (omega arith)
 
 -- the sum over the cuts of a tuple of one point
 over_pairs : (j k : List ℕ) (cs : List (List ℕ × List ℕ)) →
-    int_sum (map (λ (c : List (List ℕ) × List (List ℕ)). numerator (element qsym_m j) c.0 *ℤ numerator (element qsym_m k) c.1) (flat_map (λ (c : List ℕ × List ℕ). map (λ (d : List (List ℕ) × List (List ℕ)). (c.0 ∷ d.0, c.1 ∷ d.1)) (all_cuts [] [])) cs))
+    int_sum (map (λ (c : List (List ℕ) × List (List ℕ)). numerator (element QsymM j) c.0 *ℤ numerator (element QsymM k) c.1) (flat_map (λ (c : List ℕ × List ℕ). map (λ (d : List (List ℕ) × List (List ℕ)). (c.0 ∷ d.0, c.1 ∷ d.1)) (all_cuts [] [])) cs))
     ≡ pos (sums (λ (c : List ℕ × List ℕ). occurs_monomial j c.0 * occurs_monomial k c.1) cs)
 over_pairs j k [] = refl
 over_pairs j k (c ∷ cs) =
-    let head : numerator (element qsym_m j) (c.0 ∷ []) *ℤ numerator (element qsym_m k) (c.1 ∷ []) ≡ pos (occurs_monomial j c.0 * occurs_monomial k c.1) =
-    ap (λ z. z *ℤ numerator (element qsym_m k) (c.1 ∷ [])) (element_at j c.0) ∙ ap (λ z. pos (occurs_monomial j c.0) *ℤ z) (element_at k c.1) in
+    let head : numerator (element QsymM j) (c.0 ∷ []) *ℤ numerator (element QsymM k) (c.1 ∷ []) ≡ pos (occurs_monomial j c.0 * occurs_monomial k c.1) =
+    ap (λ z. z *ℤ numerator (element QsymM k) (c.1 ∷ [])) (element_at j c.0) ∙ ap (λ z. pos (occurs_monomial j c.0) *ℤ z) (element_at k c.1) in
     omega (arith, ints, head, over_pairs j k cs)
 
-product_at : (j k p : List ℕ) → numerator (product (element qsym_m j) (element qsym_m k)) (p ∷ []) ≡ pos (cut_sum j k p)
+product_at : (j k p : List ℕ) → numerator (product (element QsymM j) (element QsymM k)) (p ∷ []) ≡ pos (cut_sum j k p)
 product_at j k p = over_pairs j k (exponent_cuts p)
 
-words_at : (p : List ℕ) (ws : List (List ℕ)) → int_sum (map (λ w. pos (occurrence (qsym_m ∷ []) (w ∷ []) (p ∷ []))) ws) ≡ pos (sums (λ w. occurs_monomial w p) ws)
+words_at : (p : List ℕ) (ws : List (List ℕ)) → int_sum (map (λ w. pos (occurrence (QsymM ∷ []) (w ∷ []) (p ∷ []))) ws) ≡ pos (sums (λ w. occurs_monomial w p) ws)
 words_at p [] = refl
 words_at p (w ∷ ws) = omega (arith, ints, words_at p ws)
 
 -- terms that are the quasi-shuffles read as the product
 pub shuffles_read : (j k : List ℕ) (new : Terms) → IsComposition j → IsComposition k → AddsShuffles [] new [] j k
-    → (p : List ℕ) → AgreeAt (leaf (qsym_m ∷ []) 1 new) (product (element qsym_m j) (element qsym_m k)) (p ∷ [])
+    → (p : List ℕ) → AgreeAt (leaf (QsymM ∷ []) 1 new) (product (element QsymM j) (element QsymM k)) (p ∷ [])
 shuffles_read j k new hj hk h p =
-    let left : numerator (leaf (qsym_m ∷ []) 1 new) (p ∷ []) ≡ pos (shuffled j k p) = omega (arith, ints, h.weighs (λ key. pos (occurrence (qsym_m ∷ []) key (p ∷ []))), words_at p (quasi_shuffles j k)) in
+    let left : numerator (leaf (QsymM ∷ []) 1 new) (p ∷ []) ≡ pos (shuffled j k p) = omega (arith, ints, h.weighs (λ key. pos (occurrence (QsymM ∷ []) key (p ∷ []))), words_at p (quasi_shuffles j k)) in
     let same : pos (shuffled j k p) ≡ pos (cut_sum j k p) = ap pos (shuffled_is j k hj hk p) in
     ap (λ z. z *ℤ pos 1) (left ∙ same ∙ sym (product_at j k p))
 
@@ -53,16 +53,16 @@ key_of_new j k new h key has = elim (h.keys key has) [
   | inr is ↦ let size : 0 + sum j + sum k ≡ sum j + sum k = omega arith in subst (λ n. IsKeyOf n key) size is
 ]
 
-index_of_key : (n : ℕ) (key : List (List ℕ)) → IsKeyOf n key → AreIndices (qsym_m ∷ []) key
+index_of_key : (n : ℕ) (key : List (List ℕ)) → IsKeyOf n key → AreIndices (QsymM ∷ []) key
 index_of_key n key (code, is, composition, size) = rw is (composition, tt)
 
-degree_of_key : (n : ℕ) (key : List (List ℕ)) → IsKeyOf n key → total_degree (qsym_m ∷ []) key ≡ n
+degree_of_key : (n : ℕ) (key : List (List ℕ)) → IsKeyOf n key → total_degree (QsymM ∷ []) key ≡ n
 degree_of_key n key (code, is, composition, size) = rw is (omega (arith, size))
 
 -- the sum of the quasi-shuffles is the answer of the product of two elements
 pub shuffles_answer : (j k : List ℕ) (c : Combination) → IsCanonical c.rank c.den c.terms → IsComposition j → IsComposition k → c.rank ≡ 1 → c.den ≡ 1
     → norm_of c.terms ≤ length (quasi_shuffles j k) → AddsShuffles [] c.terms [] j k
-    → IsAnswer (qsym_m ∷ []) (sum j + sum k) (product (element qsym_m j) (element qsym_m k)) c
+    → IsAnswer (QsymM ∷ []) (sum j + sum k) (product (element QsymM j) (element QsymM k)) c
 shuffles_answer j k c canonical hj hk rank whole norm h = record {
   canonical = canonical;
   rank = rank;
@@ -70,5 +70,5 @@ shuffles_answer j k c canonical hj hk rank whole norm h = record {
   small = omega (arith, norm, shuffles_small (sum j + sum k) j k (omega (arith, length-le-sum j hj, length-le-sum k hk)));
   indices = λ key has. index_of_key _ key (key_of_new j k c.terms h key has);
   degrees = λ key has. degree_of_key _ key (key_of_new j k c.terms h key has);
-  reads = at_one_point (AgreeAt (leaf (qsym_m ∷ []) 1 c.terms) (product (element qsym_m j) (element qsym_m k))) (shuffles_read j k c.terms hj hk h);
+  reads = at_one_point (AgreeAt (leaf (QsymM ∷ []) 1 c.terms) (product (element QsymM j) (element QsymM k))) (shuffles_read j k c.terms hj hk h);
 }

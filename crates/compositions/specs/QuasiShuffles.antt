@@ -1,10 +1,10 @@
 -- The quasi-shuffles of two compositions, which the recursion of the code goes by. The public contract speaks of the product of readings alone.
 use Rattle.std.specs.Prelude.{◌≡◌, ℕ, ℤ, ◌+◌, ◌+ℤ◌, ◌⊎◌, List, [], ◌∷◌, ◌++◌, map}
 use Rattle.std.specs.List.{sum}
-use Rattle.linear_combos.specs.Combos.{HasKey, weighed}
-use Rattle.linear_combos.specs.Indices.{IsComposition}
-use Rattle.linear_combos.specs.Lists.{int_sum}
-use Rattle.linear_combos.specs.Readings.{Terms}
+use Rattle.realisations.specs.Combinations.{HasKey, weighed}
+use Rattle.realisations.specs.IndexKinds.{IsComposition}
+use Rattle.realisations.specs.Lists.{int_sum}
+use Rattle.realisations.specs.Readings.{Terms}
 
 -- each as often as it arises: a first part of one of them, or the sum of both, before the quasi-shuffles of the rest (Hoffman 2000)
 abbrev pub quasi_shuffles : List ℕ → List ℕ → List (List ℕ)

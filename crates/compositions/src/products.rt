@@ -1,10 +1,10 @@
 //! The quasi-shuffle: the product of two monomial quasi-symmetric functions.
 ghost use Rattle.std.specs.Prelude.{◌≡◌, ◌+◌, ◌^◌, ◌<◌, ◌≤◌, [], ◌∷◌, length, sum, OnOk, IfOk};
-ghost use Rattle.linear_combos.specs.Answers.{IsAnswer};
-ghost use Rattle.linear_combos.specs.Combos.{norm_of};
-ghost use Rattle.linear_combos.specs.Indices.{IsComposition};
-ghost use Rattle.linear_combos.specs.Readings.{element, product};
-ghost use Rattle.linear_combos.specs.Rows.{qsym_m};
+ghost use Rattle.realisations.specs.Answers.{IsAnswer};
+ghost use Rattle.realisations.specs.Combinations.{norm_of};
+ghost use Rattle.realisations.specs.IndexKinds.{IsComposition};
+ghost use Rattle.realisations.specs.Readings.{element, product};
+ghost use Rattle.basis_names.specs.declared.bases.BasisId.TheVariants.{QsymM};
 ghost use Rattle.compositions.specs.QuasiShuffles.{quasi_shuffles, AddsShuffles};
 
 use crate::Composition;
@@ -48,7 +48,7 @@ fn add_quasi_shuffles(out: &mut Combo, word: &Code, a: &[u8], b: &[u8]) -> Resul
 /// the number of quasi-shuffles, each counted as often as it arises, at most 3^n for the degree n.
 pub fn quasi_shuffle(alloc: Global, a: &Composition, b: &Composition) -> Result<Combo, OutOfMemory>
     requires { sum a.now + sum b.now ≤ 12 }
-    ensures { IfOk result (IsAnswer (qsym_m ∷ []) (sum a.now + sum b.now) (product (element qsym_m a.now) (element qsym_m b.now))) }
+    ensures { IfOk result (IsAnswer (QsymM ∷ []) (sum a.now + sum b.now) (product (element QsymM a.now) (element QsymM b.now))) }
 {
     let mut out = Combo::zero(alloc, 1);
     let word = Code::empty(alloc);

@@ -2,14 +2,11 @@
 use Rattle.std.proofs.Common.{◌≡◌, ℕ, suc, Bool, true, false, ◌||◌, List, [], ◌∷◌, Option, Some, None, refl, arith}
 use Rattle.std.specs.Prelude.{not}
 use Rattle.std.proofs.lemmas.Bool.{leb-false}
-use Rattle.basis_names.specs.declared.bases.BasisId.{BasisId as BasisName}
-use Rattle.basis_names.specs.declared.bases.BasisId.TheVariants as name
+use Rattle.basis_names.specs.declared.bases.BasisId.{BasisId}
 use Rattle.built_bases.specs.Table.{is_built as is_built_basis}
 use Rattle.session_tokens.specs.declared.lexeme.Lexeme.{Lexeme}
 use Rattle.session_tokens.specs.declared.lexeme.Linear.{Linear}
-use Rattle.session_tokens.specs.declared.lexeme.Linear.TheVariants as map
 use Rattle.session_grammar.specs.declared.expression.Expr.{Expr}
-use Rattle.session_grammar.specs.declared.expression.Expr.TheVariants as e
 use Rattle.session_grammar.specs.declared.expression.Factor.{Factor}
 use Rattle.session_grammar.specs.declared.expression.Signed.{Signed}
 use Rattle.session_grammar.specs.declared.expression.Statement.{Statement}
@@ -18,11 +15,10 @@ use Rattle.built_forms.specs.Forms.{is_built_map, begins_unbuilt}
 use Rattle.index_spellings.specs.Indices.{index_in, is_nothing, begins_bad_list}
 use Rattle.session_reading.specs.Faults.{begins_large, IsUnseen}
 use Rattle.session_reading.specs.Parses.{IsSound}
-use Rattle.hopf_laws.specs.declared.bases.BasisId.{BasisId}
-use Rattle.hopf_laws.specs.declared.bases.BasisId.TheVariants.{QsymM}
-use Rattle.session_evaluation.specs.Elements.{basis_of}
 use Rattle.session_evaluation.specs.Built.{IsBuilt, built_number, built_element, built_name, built_sum, built_tensor, built_product, AreBuilt, no_steps, built_step, IsBuiltStatement, nothing, printed, assigned}
 use Rattle.session_evaluation.specs.Evaluation.{steps_of_sum, steps_of_tensor, steps_of_product}
+use Rattle.session_tokens.specs.declared.lexeme.Linear.TheVariants as map
+use Rattle.session_grammar.specs.declared.expression.Expr.TheVariants as e
 
 -- Nothing is seen in lexemes that are refused for nothing, nor in what is left of them.
 abbrev pub IsClean : List Lexeme → Type 0
@@ -56,29 +52,20 @@ mutual
   item_rest number_item clean = clean.3
   item_rest (list_item h) clean = list_rest h clean.3
 
--- The name of a built basis means a basis of values.
-built_basis : (b : BasisName) → not (is_built_basis b) ≡ false → (basis : BasisId) × (basis_of b ≡ Some basis)
-built_basis name.QsymM seen = (QsymM, refl)
-built_basis name.QsymF seen = absurd (seen_unseen seen)
-built_basis name.NcsfS seen = absurd (seen_unseen seen)
-built_basis name.NcsfL seen = absurd (seen_unseen seen)
-built_basis name.NcsfR seen = absurd (seen_unseen seen)
-built_basis name.FqsymF seen = absurd (seen_unseen seen)
-built_basis name.FqsymG seen = absurd (seen_unseen seen)
-built_basis name.WqsymM seen = absurd (seen_unseen seen)
-built_basis name.FsymS seen = absurd (seen_unseen seen)
-built_basis name.PbtP seen = absurd (seen_unseen seen)
+-- A basis that is not seen as one that is not built is built.
+seen_built : (built : Bool) → not built ≡ false → built ≡ true
+seen_built true seen = refl
+seen_built false seen = absurd (seen_unseen seen)
 
 -- A list that is not bad spells an index.
 spelled_index : (index : Option (List ℕ)) → is_nothing index ≡ false → (code : List ℕ) × (index ≡ Some code)
 spelled_index (Some code) seen = (code, refl)
 spelled_index None seen = absurd (seen_unseen seen)
 
-element_built : (b : BasisName) (items : List Lexeme) → not (is_built_basis b) ≡ false → is_nothing (index_in b items) ≡ false → IsBuilt (e.Element b items)
-element_built b items built indexed =
-    let basis = built_basis b built in
-    let code = spelled_index (index_in b items) indexed in
-    built_element {basis = basis.0} {code = code.0} (record { built = basis.1; spelled = code.1 })
+element_built : (basis : BasisId) (items : List Lexeme) → not (is_built_basis basis) ≡ false → is_nothing (index_in basis items) ≡ false → IsBuilt (e.Element basis items)
+element_built basis items built indexed =
+    let code = spelled_index (index_in basis items) indexed in
+    built_element {code = code.0} (record { built = seen_built (is_built_basis basis) built; spelled = code.1 })
 
 -- No conversion and no linear function is built.
 never_or : (test : Bool) → (test || true) ≡ false → ⊥

@@ -5,12 +5,10 @@ use Rattle.std.proofs.lemmas.Bool.{cases_lt}
 use Rattle.hopf_laws.specs.Values.{Expansion}
 use Rattle.session_grammar.specs.declared.expression.Expr.{Expr}
 use Rattle.session_grammar.specs.declared.expression.Statement.{Statement}
-use Rattle.session_grammar.specs.declared.expression.Statement.TheVariants as s
 use Rattle.session_reading.specs.declared.fault.GrammarFault.{GrammarFault}
 use Rattle.session_reading.specs.Parses.{IsAnswer}
 use Rattle.session_reading.proofs.OneAnswer.{answer_exists}
 use Rattle.value_texts.proofs.OneText.{text_exists}
-use Rattle.hopf.specs.declared.refusal.StatementRefusal.TheVariants as refusal
 use Rattle.hopf.specs.declared.statement.Outcome.{Outcome}
 use Rattle.hopf.specs.declared.statement.Outcome.TheVariants.{Empty, Kept, Printed, Refused}
 use Rattle.session_evaluation.specs.Built.{IsBuilt, IsBuiltStatement, nothing, printed as built_print, assigned as built_assignment}
@@ -23,6 +21,8 @@ use Rattle.session_evaluation.proofs.EvaluationsExist.{evaluated_value, evaluati
 use Rattle.session_evaluation.proofs.Meanings.{meant}
 use Rattle.hopf.proofs.OneOutcome.{values_left}
 use Rattle.hopf.proofs.OneTranscript.{FromPart}
+use Rattle.session_grammar.specs.declared.expression.Statement.TheVariants as s
+use Rattle.hopf.specs.declared.refusal.StatementRefusal.TheVariants as refusal
 
 -- A statement that prints has an outcome.
 print_exists : (names : Names) (x : Expr) (answer : Answer) → AreValues names → IsBuilt x → Evaluates names x answer → (o : Outcome) × (left : Names) × IsOutcomeOf names (s.Print x) o left

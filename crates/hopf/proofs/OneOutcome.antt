@@ -3,14 +3,12 @@ use Rattle.std.proofs.Common.{◌≡◌, ℕ, List, true, false, Ok, Err, Result
 use Rattle.hopf_laws.specs.Values.{Expansion, IsValue}
 use Rattle.session_grammar.specs.declared.expression.Expr.{Expr}
 use Rattle.session_grammar.specs.declared.expression.Statement.{Statement}
-use Rattle.session_grammar.specs.declared.expression.Statement.TheVariants as s
 use Rattle.session_reading.specs.declared.fault.GrammarFault.{GrammarFault}
 use Rattle.session_reading.specs.Parses.{IsAnswer}
 use Rattle.value_texts.specs.Text.{IsTextOf}
 use Rattle.session_reading.proofs.OneAnswer.{answer_once}
 use Rattle.value_texts.proofs.OneText.{text_once}
 use Rattle.session_evaluation.specs.declared.refusal.EvaluationRefusal.{EvaluationRefusal}
-use Rattle.hopf.specs.declared.refusal.StatementRefusal.TheVariants as refusal
 use Rattle.hopf.specs.declared.statement.Outcome.{Outcome}
 use Rattle.hopf.specs.declared.statement.Outcome.TheVariants.{Printed, Refused}
 use Rattle.session_evaluation.specs.Built.{IsBuiltStatement, assigned as built_assignment}
@@ -21,6 +19,8 @@ use Rattle.hopf.proofs.BuiltStatements.{sound_built}
 use Rattle.session_evaluation.proofs.EvaluationsExist.{evaluated_value}
 use Rattle.session_evaluation.proofs.KnownNames.{values-with_value}
 use Rattle.session_evaluation.proofs.OneEvaluation.{evaluation_once, evaluated_positive}
+use Rattle.session_grammar.specs.declared.expression.Statement.TheVariants as s
+use Rattle.hopf.specs.declared.refusal.StatementRefusal.TheVariants as refusal
 
 same_value : (names : Names) (x : Expr) (v w : Expansion) → AreValues names → Evaluates names x (Ok v) → Evaluates names x (Ok w) → v ≡ w
 same_value names x v w are h k = let same : ◌≡◌ {A = Answer} (Ok v) (Ok w) = evaluation_once names x (Ok v) (Ok w) are h k in cc

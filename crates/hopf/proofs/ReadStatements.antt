@@ -4,7 +4,6 @@ use Rattle.hopf_num.specs.declared.memory.OutOfMemory.{OutOfMemory}
 use Rattle.session_grammar.specs.declared.expression.Statement.{Statement}
 use Rattle.session_reading.specs.declared.fault.GrammarFault.{GrammarFault}
 use Rattle.session_reading.specs.Parses.{IsAnswer, Parses, no_memory, answered}
-use Rattle.hopf.specs.declared.refusal.StatementRefusal.TheVariants as refusal
 use Rattle.hopf.specs.declared.statement.Outcome.{Outcome}
 use Rattle.hopf.specs.declared.statement.Outcome.TheVariants.{Refused}
 use Rattle.session_evaluation.specs.Built.{IsBuiltStatement}
@@ -12,6 +11,7 @@ use Rattle.session_evaluation.specs.Names.{Names}
 use Rattle.hopf.specs.Outcomes.{IsOutcome, misread}
 use Rattle.hopf.specs.Sessions.{IsTold}
 use Rattle.hopf.proofs.BuiltStatements.{sound_built}
+use Rattle.hopf.specs.declared.refusal.StatementRefusal.TheVariants as refusal
 
 -- a statement that was read is the text's
 pub parsed_answer : (text : List ℕ) (st : Statement) → Parses text (Ok st) → IsAnswer text (Ok st)

@@ -3,18 +3,18 @@ use Rattle.std.proofs.Common.{◌≡◌, ◌≢◌, inl, inr, Bool, true, false,
 use Rattle.basis_routes.specs.declared.checks.Check.{Check}
 use Rattle.basis_routes.specs.declared.checks.Check.TheVariants.{SameRank, RankWithin, Scalar, Nonzero, Joined, DegreeWithin, Room}
 use Rattle.basis_routes.specs.declared.refusal.Refusal.{Refusal}
-use Rattle.basis_routes.specs.declared.refusal.Refusal.TheVariants as value
 use Rattle.basis_routes.specs.Checks.{refusal_of, IsFirstFailing}
 use Rattle.hopf_laws.specs.Values.{Expansion}
 use Rattle.session_grammar.specs.declared.expression.Expr.{Expr}
 use Rattle.session_evaluation.specs.declared.operator.Operator.{Operator}
 use Rattle.session_evaluation.specs.declared.refusal.EvaluationRefusal.{EvaluationRefusal}
-use Rattle.session_evaluation.specs.declared.refusal.EvaluationRefusal.TheVariants as refusal
 use Rattle.hopf.specs.declared.statement.Outcome.TheVariants.{Refused}
 use Rattle.session_evaluation.specs.Names.{Names}
 use Rattle.session_evaluation.specs.Evaluation.{Answer, Steps, steps_of_sum, steps_of_tensor, steps_of_product, checks_of, Operates, answers, fails, Applies, Signs, Evaluates, number, element, known, unknown, sum, tensor_product, product, Folds, done, refused, step}
 use Rattle.hopf.specs.Outcomes.{refused_as}
 use Rattle.hopf.specs.Sessions.{IsTold}
+use Rattle.basis_routes.specs.declared.refusal.Refusal.TheVariants as value
+use Rattle.session_evaluation.specs.declared.refusal.EvaluationRefusal.TheVariants as refusal
 
 check_told : (check : Check) → refusal_of check ≡ value.Memory → ⊥
 check_told (SameRank left right) is = absurd (cc)

@@ -3,20 +3,20 @@ use Rattle.std.specs.Prelude.{◌≡◌, ℕ, ◌<◌, ◌≤◌, List, [], ◌�
 use Rattle.hopf_laws.specs.Values.{Expansion}
 use Rattle.session_grammar.specs.declared.expression.Expr.{Expr}
 use Rattle.session_grammar.specs.declared.expression.Statement.{Statement}
-use Rattle.session_grammar.specs.declared.expression.Statement.TheVariants as s
 use Rattle.session_reading.specs.declared.fault.GrammarFault.{GrammarFault}
 use Rattle.session_reading.specs.Parses.{IsAnswer}
 use Rattle.value_texts.specs.Text.{IsTextOf}
 use Rattle.session_evaluation.specs.declared.refusal.EvaluationRefusal.{EvaluationRefusal}
-use Rattle.session_evaluation.specs.declared.refusal.EvaluationRefusal.TheVariants as evaluation
 use Rattle.hopf.specs.declared.refusal.StatementRefusal.{StatementRefusal}
-use Rattle.hopf.specs.declared.refusal.StatementRefusal.TheVariants as refusal
 use Rattle.hopf.specs.declared.statement.Outcome.{Outcome}
 use Rattle.hopf.specs.declared.statement.Outcome.TheVariants.{Empty, Kept, Printed, Refused}
 use Rattle.session_evaluation.specs.Names.{Names, with_value, has_room_for}
 use Rattle.session_evaluation.specs.Evaluation.{Evaluates}
 use Rattle.session_evaluation.specs.Meaning.{IsMeant}
 use Rattle.hopf.specs.Refusals.{refusal_line}
+use Rattle.session_grammar.specs.declared.expression.Statement.TheVariants as s
+use Rattle.session_evaluation.specs.declared.refusal.EvaluationRefusal.TheVariants as evaluation
+use Rattle.hopf.specs.declared.refusal.StatementRefusal.TheVariants as refusal
 
 -- the refusal of a statement whose expression has no value
 abbrev pub refused_as : EvaluationRefusal → StatementRefusal

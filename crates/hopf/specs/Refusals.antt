@@ -1,18 +1,13 @@
 -- The lines of refusals.
 use Rattle.std.specs.Prelude.{ℕ, List, ◌++◌, codes}
 use Rattle.std.specs.Fmt.{decimal}
-use Rattle.hopf_laws.specs.declared.bases.AlgebraId.{AlgebraId}
-use Rattle.hopf_laws.specs.declared.bases.AlgebraId.TheVariants.{Qsym}
+use Rattle.basis_names.specs.Bases.{name_of_algebra}
 use Rattle.basis_routes.specs.declared.refusal.Refusal.{Refusal}
-use Rattle.basis_routes.specs.declared.refusal.Refusal.TheVariants as value
 use Rattle.session_reading.specs.declared.fault.GrammarFault.{GrammarFault}
-use Rattle.session_reading.specs.declared.fault.GrammarFault.TheVariants as fault
 use Rattle.hopf.specs.declared.refusal.StatementRefusal.{StatementRefusal}
+use Rattle.basis_routes.specs.declared.refusal.Refusal.TheVariants as value
+use Rattle.session_reading.specs.declared.fault.GrammarFault.TheVariants as fault
 use Rattle.hopf.specs.declared.refusal.StatementRefusal.TheVariants as refusal
-
--- the name of an algebra
-abbrev pub name_of_algebra : AlgebraId → List ℕ
-name_of_algebra Qsym = codes "QSym"
 
 -- the numbers of refusals; want of memory is none and has 0
 abbrev pub number_of_fault : GrammarFault → ℕ

@@ -1,10 +1,7 @@
 -- What a session does to its state and to its output.
 use Rattle.std.specs.Prelude.{◌≡◌, ◌≢◌, ℕ, ◌+◌, ◌-◌, [], ◌≤◌, ◌⊎◌, List, ◌++◌, length, if◌then◌else◌, Option, Some, Result, IsErrOf, OnOk}
 use Rattle.std.specs.Io.KnownBytes.{Appends}
-use Rattle.basis_routes.specs.declared.refusal.Refusal.TheVariants as value
 use Rattle.hopf_io.specs.Prefixes.{IsPrefix}
-use Rattle.session_reading.specs.declared.fault.GrammarFault.TheVariants as fault
-use Rattle.hopf.specs.declared.refusal.StatementRefusal.TheVariants as refusal
 use Rattle.hopf.specs.declared.statement.Outcome.{Outcome}
 use Rattle.hopf.specs.declared.statement.Outcome.TheVariants.{Refused}
 use Rattle.hopf.specs.declared.session.Session.{Session}
@@ -13,6 +10,9 @@ use Rattle.hopf.specs.declared.session.SessionFault.TheVariants.{Write}
 use Rattle.session_evaluation.specs.Names.{Names, AreValues}
 use Rattle.hopf.specs.Outcomes.{IsOutcome, line_of, is_printed, is_refusal}
 use Rattle.hopf.specs.Transcript.{IsScript, lines, count_printed, count_refused, unfinished}
+use Rattle.basis_routes.specs.declared.refusal.Refusal.TheVariants as value
+use Rattle.session_reading.specs.declared.fault.GrammarFault.TheVariants as fault
+use Rattle.hopf.specs.declared.refusal.StatementRefusal.TheVariants as refusal
 
 -- One statement.
 

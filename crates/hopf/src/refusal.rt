@@ -1,10 +1,11 @@
 //! Why a statement is refused, and the line that says so.
 ghost use Rattle.std.specs.Prelude.{◌≡◌, ◌++◌, codes, OnOk, IfOk};
-ghost use Rattle.hopf.specs.Refusals.{name_of_algebra, number_of_fault, number_of_value, number_of, text_of_fault, text_of_value, text_of, refusal_line};
+ghost use Rattle.basis_names.specs.Bases.{name_of_algebra};
+ghost use Rattle.hopf.specs.Refusals.{number_of_fault, number_of_value, number_of, text_of_fault, text_of_value, text_of, refusal_line};
 
+use basis_names::{AlgebraId, algebra_name};
 use basis_routes::Refusal;
 use hopf_io::Bytes;
-use hopf_laws::AlgebraId;
 use hopf_num::OutOfMemory;
 use session_reading::GrammarFault;
 use session_tokens::Name;
@@ -25,15 +26,6 @@ pub enum StatementRefusal {
     Value(Refusal),
     /// An assignment would give a 257th name.
     TooManyNames,
-}
-
-// The name of an algebra.
-fn algebra_name(algebra: AlgebraId) -> &'static str
-    ensures { result.now ≡ name_of_algebra algebra }
-{
-    match algebra {
-        AlgebraId::Qsym => "QSym",
-    }
 }
 
 // The number of a fault of the grammar.
@@ -93,8 +85,8 @@ fn push_both(first: &[u8], second: &[u8], out: &mut Bytes) -> Result<(), OutOfMe
 fn push_mixed(a: AlgebraId, b: AlgebraId, out: &mut Bytes) -> Result<(), OutOfMemory>
     ensures { OnOk result (out.new ≡ out.old ++ (codes "no common algebra for " ++ name_of_algebra a ++ codes " and " ++ name_of_algebra b)) }
 {
-    push_both(b"no common algebra for ", algebra_name(a).as_bytes(), out)?;
-    push_both(b" and ", algebra_name(b).as_bytes(), out)
+    push_both(b"no common algebra for ", algebra_name(a), out)?;
+    push_both(b" and ", algebra_name(b), out)
 }
 
 // Appends the text of a fault of the grammar.

@@ -1,2 +1,3 @@
+pub mod BuiltBases
 pub mod Scalars
 pub mod Uniqueness

@@ -8,10 +8,10 @@ use Rattle.std.specs.declared.cmp.Ordering.TheVariants.{Less, Equal}
 use Rattle.std.specs.Int.{◌∣◌}
 use Rattle.hopf_num.specs.Fractions.{Ratio, IsFraction}
 use Rattle.hopf_num.proofs.LowestTerms.{fraction-unique}
-use Rattle.linear_combos.specs.Combos.{Combination, AreTerms, IsLowest, IsCanonical, IsMultiple, norm_of, key_cmp, term_at, terms_of, weighed}
-use Rattle.linear_combos.specs.Readings.{Terms, leaf, occurrence, numerator}
-use Rattle.hopf_laws.specs.declared.bases.BasisId.{BasisId}
-use Rattle.hopf_laws.specs.Bases.{rows_of}
+use Rattle.realisations.specs.Combinations.{Combination, AreTerms, IsLowest, IsCanonical, norm_of, key_cmp, term_at, terms_of, weighed}
+use Rattle.linear_combos.specs.Combos.{IsMultiple}
+use Rattle.realisations.specs.Readings.{Terms, leaf, occurrence, numerator}
+use Rattle.basis_names.specs.declared.bases.BasisId.{BasisId}
 use Rattle.hopf_laws.specs.Values.{Expansion, IsValue, ratio_of}
 
 -- the number of terms of rank 0
@@ -83,7 +83,7 @@ no_bases (basis ∷ bases) e = absurd (omega arith)
 pub ratio-scalar : (v : Expansion) → IsValue v → length v.bases ≡ 0 → ratio_of v ≡ record { num = number_of v.combination.terms; den = v.combination.den }
 ratio-scalar v is none =
     let terms : AreTerms 0 v.combination.terms = subst (λ n. AreTerms n v.combination.terms) (is.rank ∙ none) is.canonical.ordered in
-    (λ i. record { num = numerator (leaf (rows_of (no_bases v.bases none i)) v.combination.den v.combination.terms) []; den = v.combination.den })
+    (λ i. record { num = numerator (leaf ((no_bases v.bases none i)) v.combination.den v.combination.terms) []; den = v.combination.den })
     ∙ (λ i. record { num = numerator-scalar v.combination.den v.combination.terms terms i; den = v.combination.den })
 
 -- a number as terms reads as the number

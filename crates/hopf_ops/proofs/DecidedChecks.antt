@@ -4,12 +4,12 @@ use Rattle.std.proofs.Math.IntN.{ℤ, pos, negsuc}
 use Rattle.std.proofs.lemmas.Bool.{cases_lt, cases_eq}
 use Rattle.std.proofs.lemmas.Int.{ints}
 use Rattle.std.proofs.lemmas.List.Elements.{All-nil, All-cons, All-tail, All-head}
-use Rattle.std.specs.Prelude.{All}
+use Rattle.std.specs.Prelude.{All, Option, Some, None, IsSome}
 use Rattle.hopf_num.specs.declared.room.Need.{Need}
 use Rattle.hopf_num.specs.declared.room.Need.TheVariants.{Denominator, CommonDenominator, Linear, Product, Sum}
 use Rattle.hopf_num.specs.Room.{HasRoom, IsNeed}
 use Rattle.hopf_num.proofs.CommonDivisors.{gcd-exists, IsLcm-quotient, common_room}
-use Rattle.hopf_laws.specs.declared.bases.BasisId.TheVariants.{QsymM}
+use Rattle.basis_routes.specs.JoinTable.{join_of}
 use Rattle.basis_routes.specs.declared.refusal.Refusal.{Refusal}
 use Rattle.basis_routes.specs.declared.checks.Check.{Check}
 use Rattle.basis_routes.specs.declared.checks.Check.TheVariants.{SameRank, RankWithin, Scalar, Nonzero, Joined, DegreeWithin, Room}
@@ -54,13 +54,18 @@ room_decided (Linear norm shift) is = below_decided _ _
 room_decided (Product left right shift) is = below_decided _ _
 room_decided (Sum left left_factor right right_factor) is = below_decided _ _
 
+-- there is something, or nothing
+some_decided : {A : Type 0} (o : Option A) → IsSome o ⊎ (IsSome o → ⊥)
+some_decided (Some x) = inl refl
+some_decided None = inr (λ is. absurd (cc))
+
 -- a check passes or not
 pub check_decided : (check : Check) → IsCheck check → Passes check ⊎ (Passes check → ⊥)
 check_decided (SameRank left right) is = cases_eq left right
 check_decided (RankWithin rank) is = within_decided rank 3
 check_decided (Scalar rank) is = cases_eq rank 0
 check_decided (Nonzero num) is = nonzero_decided num
-check_decided (Joined QsymM QsymM) is = inl refl
+check_decided (Joined left right) is = some_decided (join_of left right)
 check_decided (DegreeWithin degree limit) is = within_decided degree limit
 check_decided (Room need) is = room_decided need is
 

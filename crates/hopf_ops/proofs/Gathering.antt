@@ -8,17 +8,15 @@ use Rattle.std.proofs.lemmas.Int.{ints, unsigned_abs-mul}
 use Rattle.std.proofs.lemmas.List.{take_all}
 use Rattle.std.proofs.lemmas.List.Sums.{sum_by_more, sum_by-take-le}
 use Rattle.hopf_num.proofs.Ring.{*ℤ-+ℤ, *ℤ_assoc, *ℤ-pos_cancel}
-use Rattle.linear_combos.specs.Combos.{Combination, IsCanonical, HasKey, norm_of, term_at, weighed, AddsTerm}
-use Rattle.linear_combos.specs.Indices.{AreIndices, total_degree}
-use Rattle.linear_combos.specs.Readings.{Terms, leaf, product, of_key, occurrence, numerator}
-use Rattle.linear_combos.proofs.Coefficients.{Codes}
-use Rattle.linear_combos.proofs.Linearity.{reads_bilinearly}
+use Rattle.realisations.specs.Combinations.{Combination, IsCanonical, HasKey, norm_of, term_at, weighed, AddsTerm}
+use Rattle.realisations.specs.Indices.{AreIndices, total_degree}
+use Rattle.realisations.specs.Readings.{Terms, leaf, product, of_key, occurrence, numerator}
+use Rattle.realisations.proofs.Coefficients.{Codes}
+use Rattle.realisations.proofs.Linearity.{reads_bilinearly}
 use Rattle.linear_combos.proofs.Merging.{weighed-more}
-use Rattle.hopf_laws.specs.declared.bases.BasisId.{BasisId}
-use Rattle.hopf_laws.specs.Bases.{rows_of}
+use Rattle.basis_names.specs.declared.bases.BasisId.{BasisId}
 use Rattle.basis_routes.proofs.Degrees.{degree-le-greatest}
 use Rattle.hopf_ops.specs.Gathering.{IsGathered, AreFactors, AreFactorKeys, IsProductOfKeys, AreGathered, AddsMultiple, degree_of_product}
-use Rattle.hopf_ops.proofs.TensorsOfValues.{length-rows}
 
 -- the norm with a term more
 norm-more : (ts : Terms) (i : ℕ) → i < length ts → norm_of (take (i + 1) ts) ≡ norm_of (take i ts) + unsigned_abs (term_at ts i).0
@@ -101,9 +99,10 @@ module _ (bases : List BasisId) (a b : Combination) (factors : AreFactors bases 
   -- the keys of two terms have a product
   pub factor_keys : AreFactorKeys bases ((term_at a.terms i).1) ((term_at b.terms j).1)
   factor_keys = record {
+    built = factors.built;
     left_indices = factors.left_over.indices _ (i, here, refl);
     right_indices = factors.right_over.indices _ (j, there, refl);
-    degree = omega (arith, factors.degree, degree-le-greatest (rows_of bases) a.terms ((term_at a.terms i).1) (i, here, refl), degree-le-greatest (rows_of bases) b.terms ((term_at b.terms j).1) (j, there, refl));
+    degree = omega (arith, factors.degree, degree-le-greatest bases a.terms ((term_at a.terms i).1) (i, here, refl), degree-le-greatest bases b.terms ((term_at b.terms j).1) (j, there, refl));
   }
 
   -- the norm up to the next product is within all
@@ -139,8 +138,8 @@ module _ (bases : List BasisId) (a b : Combination) (factors : AreFactors bases 
       ≤ (norm_of (take i a.terms) * norm_of b.terms + unsigned_abs (term_at a.terms i).0 * (norm_of (take j b.terms) + unsigned_abs (term_at b.terms j).0))
       * 2 ^ (5 * degree_of_product bases a.terms b.terms)
   product_norm =
-      let degrees : 5 * (total_degree (rows_of bases) (term_at a.terms i).1 + total_degree (rows_of bases) (term_at b.terms j).1) ≤ 5 * degree_of_product bases a.terms b.terms =
-      omega (arith, degree-le-greatest (rows_of bases) a.terms ((term_at a.terms i).1) (i, here, refl), degree-le-greatest (rows_of bases) b.terms ((term_at b.terms j).1) (j, there, refl)) in
+      let degrees : 5 * (total_degree bases (term_at a.terms i).1 + total_degree bases (term_at b.terms j).1) ≤ 5 * degree_of_product bases a.terms b.terms =
+      omega (arith, degree-le-greatest bases a.terms ((term_at a.terms i).1) (i, here, refl), degree-le-greatest bases b.terms ((term_at b.terms j).1) (j, there, refl)) in
       let small : norm_of p.terms ≤ 2 ^ (5 * degree_of_product bases a.terms b.terms) = omega (arith, is.small, pow_mono degrees) in
       rw (unsigned_abs-mul (term_at a.terms i).0 (term_at b.terms j).0)
       (more_norm (norm_of c.terms) (norm_of (take i a.terms)) (norm_of b.terms) (unsigned_abs (term_at a.terms i).0) (norm_of (take j b.terms)) (unsigned_abs (term_at b.terms j).0)
@@ -151,18 +150,18 @@ module _ (bases : List BasisId) (a b : Combination) (factors : AreFactors bases 
   product_room = omega (arith, product_norm, next_norm bases a b factors i j here there)
 
   -- keys of the sum so far or of the next product
-  product_key : (key : Codes) → HasKey c.terms key ⊎ HasKey p.terms key → AreIndices (rows_of bases) key × (total_degree (rows_of bases) key ≤ degree_of_product bases a.terms b.terms)
+  product_key : (key : Codes) → HasKey c.terms key ⊎ HasKey p.terms key → AreIndices bases key × (total_degree bases key ≤ degree_of_product bases a.terms b.terms)
   product_key key (inl has) = (so_far.indices key has, so_far.degrees key has)
   product_key key (inr has) = (
     is.indices key has,
-    omega (arith, is.degrees key has, degree-le-greatest (rows_of bases) a.terms ((term_at a.terms i).1) (i, here, refl), degree-le-greatest (rows_of bases) b.terms ((term_at b.terms j).1) (j, there, refl)),
+    omega (arith, is.degrees key has, degree-le-greatest bases a.terms ((term_at a.terms i).1) (i, here, refl), degree-le-greatest bases b.terms ((term_at b.terms j).1) (j, there, refl)),
   )
 
   -- the product reads as that of the keys
   product_reads : (ps : Codes) → length ps ≡ length bases
-      → numerator (leaf (rows_of bases) 1 p.terms) ps ≡ numerator (product (of_key (rows_of bases) ((term_at a.terms i).1)) (of_key (rows_of bases) ((term_at b.terms j).1))) ps
+      → numerator (leaf bases 1 p.terms) ps ≡ numerator (product (of_key bases ((term_at a.terms i).1)) (of_key bases ((term_at b.terms j).1))) ps
   product_reads ps size =
-      *ℤ-pos_cancel _ _ 1 (omega arith) (is.reads ps (size ∙ sym (length-rows bases)))
+      *ℤ-pos_cancel _ _ 1 (omega arith) (is.reads ps (size))
 
   -- a multiple of it was added
   pub product_gathered : (new : Combination) → AddsMultiple c ((term_at a.terms i).0 *ℤ (term_at b.terms j).0) p.terms (length p.terms) new → AreGathered bases a.terms b.terms i (j + 1) new
@@ -183,8 +182,8 @@ module _ (bases : List BasisId) (a b : Combination) (factors : AreFactors bases 
           ap (λ n. (norm_of (take i a.terms) * norm_of b.terms + unsigned_abs x * n) * 2 ^ (5 * degree_of_product bases a.terms b.terms)) (norm-more b.terms j there),
         );
         reads = λ ps size.
-            let w = λ (key : Codes). pos (occurrence (rows_of bases) key ps) in
-            let g = λ (l : Codes). numerator (product (of_key (rows_of bases) ((term_at a.terms i).1)) (of_key (rows_of bases) l)) ps in
+            let w = λ (key : Codes). pos (occurrence bases key ps) in
+            let g = λ (l : Codes). numerator (product (of_key bases ((term_at a.terms i).1)) (of_key bases l)) ps in
             let added : (x *ℤ y) *ℤ weighed w (take (length p.terms) p.terms) ≡ (x *ℤ y) *ℤ g (term_at b.terms j).1 =
             ap (λ us. (x *ℤ y) *ℤ weighed w us) whole ∙ ap (λ z. (x *ℤ y) *ℤ z) (product_reads ps size) in
             omega (arith, ints, adds.weighs w, so_far.reads ps size, added, scaled-more x g b.terms j there);
@@ -203,7 +202,7 @@ row_gathered bases ts us i c here is =
       degrees = is.degrees;
       norm = omega (arith, is.norm, ap (λ l. unsigned_abs x * norm_of l * growth) whole, ap (λ n. n * norm_of us * growth) (norm-more ts i here));
       reads = λ ps size.
-          let f = λ (k l : Codes). numerator (product (of_key (rows_of bases) k) (of_key (rows_of bases) l)) ps in
+          let f = λ (k l : Codes). numerator (product (of_key bases k) (of_key bases l)) ps in
           omega (
             arith,
             ints,
@@ -225,8 +224,8 @@ all_gathered bases a b c canonical is =
       over = record { rank = is.rank; indices = is.indices };
       degrees = is.degrees;
       reads = λ ps size.
-          let f = λ (k l : Codes). numerator (product (of_key (rows_of bases) k) (of_key (rows_of bases) l)) ps in
-          let all : numerator (leaf (rows_of bases) 1 c.terms) ps ≡ weighed (λ k. weighed (f k) b.terms) a.terms =
+          let f = λ (k l : Codes). numerator (product (of_key bases k) (of_key bases l)) ps in
+          let all : numerator (leaf bases 1 c.terms) ps ≡ weighed (λ k. weighed (f k) b.terms) a.terms =
           omega (arith, ints, is.reads ps size, ap (weighed (λ k. weighed (f k) b.terms)) whole, *ℤ-zero (term_at a.terms (length a.terms)).0) in
-          all ∙ sym (reads_bilinearly (rows_of bases) a.den b.den a.terms b.terms ps);
+          all ∙ sym (reads_bilinearly bases a.den b.den a.terms b.terms ps);
     }

@@ -4,12 +4,12 @@ use Rattle.std.proofs.Math.IntN.{ℤ, pos, ◌*ℤ◌}
 use Rattle.std.specs.Int.{◌∣◌, IsGcd}
 use Rattle.std.proofs.lemmas.Nat.Gcd.{dvd_refl, dvd_trans}
 use Rattle.hopf_num.proofs.CommonDivisors.{gcd-exists}
-use Rattle.linear_combos.specs.Readings.{Terms}
-use Rattle.linear_combos.specs.Combos.{Combination, IsCanonical, AreTerms, norm_of, term_at}
+use Rattle.realisations.specs.Readings.{Terms}
+use Rattle.realisations.specs.Combinations.{Combination, IsCanonical, AreTerms, norm_of, term_at}
 use Rattle.linear_combos.specs.Merges.{IsCommon, IsUnreduced, IsOver as IsCombinationOver, quotients}
 use Rattle.linear_combos.proofs.Gathering.{Gathers, gathered}
 use Rattle.linear_combos.proofs.LowestCombos.{IsCanonical-quotients, IsOver-quotients}
-use Rattle.hopf_laws.specs.declared.bases.BasisId.{BasisId}
+use Rattle.basis_names.specs.declared.bases.BasisId.{BasisId}
 use Rattle.hopf_laws.specs.Values.{IsValue}
 use Rattle.hopf_ops.specs.Answers.{IsOver}
 
@@ -67,4 +67,4 @@ combination_exists rank den ts ranks room positive small =
 
 -- a canonical combination over bases is a value
 pub value_over : (bases : List BasisId) (c : Combination) → IsOver bases c → IsCanonical c.rank c.den c.terms → IsValue (record { bases = bases; combination = c })
-value_over bases c is canonical = record { short = is.short; rank = is.rank; canonical = canonical; indices = is.indices; degrees = is.degrees }
+value_over bases c is canonical = record { short = is.short; built = is.built; rank = is.rank; canonical = canonical; indices = is.indices; degrees = is.degrees }

@@ -8,9 +8,10 @@ use Rattle.std.proofs.lemmas.List.{length-map, get_or-map}
 use Rattle.std.proofs.lemmas.List.Sums.{sum_by-cons}
 use Rattle.hopf_num.specs.Fractions.{Ratio, reciprocal}
 use Rattle.hopf_num.proofs.Ring.{+ℤ-*ℤ}
-use Rattle.linear_combos.specs.Readings.{Terms, multiple}
-use Rattle.linear_combos.specs.Combos.{Combination, IsCanonical, IsMultiple, HasKey, norm_of, term_at, weighed}
-use Rattle.linear_combos.proofs.LowestCombos.{times_turned}
+use Rattle.realisations.specs.Readings.{Terms, multiple}
+use Rattle.realisations.specs.Combinations.{Combination, IsCanonical, HasKey, norm_of, term_at, weighed}
+use Rattle.linear_combos.specs.Combos.{IsMultiple}
+use Rattle.realisations.proofs.Agreement.{times_turned}
 use Rattle.hopf_laws.specs.Values.{Expansion, IsValue, Expands, ratio_of, reading_of}
 use Rattle.basis_routes.specs.declared.checks.Check.TheVariants.{Scalar}
 use Rattle.basis_routes.specs.Checks.{Passes}

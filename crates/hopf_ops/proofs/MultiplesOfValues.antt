@@ -8,9 +8,9 @@ use Rattle.hopf_num.specs.Fractions.{Ratio, with_sign_of}
 use Rattle.hopf_num.specs.Room.{HasRoom, product_rule}
 use Rattle.hopf_num.specs.declared.room.Need.TheVariants.{Denominator, Product}
 use Rattle.hopf_num.proofs.LowestTerms.{abs-neg}
-use Rattle.linear_combos.specs.Combos.{Combination, IsMultiple}
-use Rattle.linear_combos.specs.Readings.{leaf, multiple, occurrence, numerator, AgreeAt}
-use Rattle.hopf_laws.specs.Bases.{rows_of}
+use Rattle.realisations.specs.Combinations.{Combination}
+use Rattle.linear_combos.specs.Combos.{IsMultiple}
+use Rattle.realisations.specs.Readings.{leaf, multiple, occurrence, numerator, AgreeAt}
 use Rattle.hopf_laws.specs.Values.{Expansion, IsValue, reading_of}
 use Rattle.hopf_ops.specs.Answers.{IsOver}
 
@@ -18,6 +18,7 @@ use Rattle.hopf_ops.specs.Answers.{IsOver}
 pub multiple_over : (a : Expansion) (by : Ratio) (c : Combination) → IsValue a → IsMultiple a.combination by c → IsOver a.bases c
 multiple_over a by c ha is = record {
   short = ha.short;
+  built = ha.built;
   rank = is.rank ∙ ha.rank;
   indices = λ key has. ha.indices key (is.keys key has);
   degrees = λ key has. ha.degrees key (is.keys key has);
@@ -25,12 +26,12 @@ multiple_over a by c ha is = record {
 
 -- and reads as the multiple
 pub multiple_reads : (a : Expansion) (by : Ratio) (c : Combination) → IsMultiple a.combination by c
-    → (ps : List (List ℕ)) → AgreeAt (leaf (rows_of a.bases) c.den c.terms) (multiple by.num by.den (reading_of a)) ps
+    → (ps : List (List ℕ)) → AgreeAt (leaf a.bases c.den c.terms) (multiple by.num by.den (reading_of a)) ps
 multiple_reads a by c is ps =
-    let value = numerator (leaf (rows_of a.bases) c.den c.terms) ps in
+    let value = numerator (leaf a.bases c.den c.terms) ps in
     let den : pos (by.den * a.combination.den) ≡ pos a.combination.den *ℤ pos by.den = ap pos (mul_comm by.den a.combination.den) ∙ sym (pos-*ℤ-pos a.combination.den by.den) in
     ap (λ z. value *ℤ z) den
-    ∙ is.weighs (λ key. pos (occurrence (rows_of a.bases) key ps))
+    ∙ is.weighs (λ key. pos (occurrence a.bases key ps))
     ∙ ap (λ z. z *ℤ pos c.den) (*ℤ_comm (numerator (reading_of a) ps) by.num)
 
 -- the absolute value of a number with some sign

@@ -5,23 +5,21 @@ use Rattle.std.proofs.Math.Nat.{mul-le-mul}
 use Rattle.std.specs.Prelude.{All, Bool, true, false, ◌||◌, if◌then◌else◌, nat_eq}
 use Rattle.std.proofs.lemmas.Bool.{eqb-false}
 use Rattle.std.proofs.lemmas.List.{take_all}
-use Rattle.std.proofs.lemmas.List.Elements.{All-nil, All-cons, All-head, All-tail}
 use Rattle.std.proofs.lemmas.List.Sums.{sum_by-append}
 use Rattle.hopf_num.specs.Fractions.{Ratio}
-use Rattle.linear_combos.specs.Combos.{Combination, IsCanonical, IsLowest, HasKey, norm_of, term_at, weighed}
-use Rattle.linear_combos.specs.Readings.{Terms, leaf, product, tensor, AgreeAt}
-use Rattle.linear_combos.proofs.Coefficients.{Codes}
+use Rattle.realisations.specs.Combinations.{Combination, IsCanonical, IsLowest, HasKey, norm_of, term_at, weighed}
+use Rattle.realisations.specs.Readings.{Terms, leaf, product, tensor, AgreeAt}
+use Rattle.realisations.proofs.Coefficients.{Codes}
 use Rattle.linear_combos.proofs.Edits.{lowest_one, zero_canonical}
 use Rattle.linear_combos.proofs.Gathering.{gathered}
-use Rattle.hopf_laws.specs.declared.bases.BasisId.{BasisId}
-use Rattle.hopf_laws.specs.Bases.{rows_of, least_limit}
+use Rattle.basis_names.specs.declared.bases.BasisId.{BasisId}
+use Rattle.hopf_laws.specs.Bases.{least_limit}
 use Rattle.hopf_laws.specs.Values.{Expansion, IsValue, Expands, reading_of, degree_of_value}
-use Rattle.basis_routes.specs.declared.checks.Check.{Check}
 use Rattle.basis_routes.specs.declared.checks.Check.TheVariants.{SameRank, DegreeWithin}
 use Rattle.basis_routes.specs.Checks.{Passes}
 use Rattle.basis_routes.specs.Joins.{joined, join_checks}
 use Rattle.basis_routes.proofs.Degrees.{least_limit-small}
-use Rattle.basis_routes.proofs.Rows.{passes_last}
+use Rattle.basis_routes.proofs.Rows.{passes_earlier, passes_last}
 use Rattle.basis_routes.proofs.RulesExist.{elements_product_exists}
 use Rattle.hopf_ops.specs.Gathering.{IsGathered, AreFactors, AreFactorKeys, IsProductOfKeys, AreGathered, AddsMultiple, degree_of_product}
 use Rattle.hopf_ops.specs.Operations.{common_checks, has_scalar, product_room, component_checks, product_checks, product_bases, product_of}
@@ -33,7 +31,6 @@ use Rattle.hopf_ops.proofs.ScalarProductsExist.{scalar_product_exists}
 use Rattle.hopf_ops.proofs.SumsExist.{AreOfRank, times, weighed-times_factor, norm-times_factor, keys-times_factor, weighed-append, keys-append, rank-of_keys, keys-of_rank, passes_later}
 use Rattle.hopf_ops.proofs.SumsOfValues.{same_bases, joined-same}
 use Rattle.hopf_ops.proofs.TensorsExist.{tensor_combination_exists}
-use Rattle.hopf_ops.proofs.TensorsOfValues.{length-rows}
 
 -- two keys of indices whose degrees add to at most the limit have a product
 pub keys_product_exists : (bases : List BasisId) (left right : Codes) → 1 ≤ length bases → AreFactorKeys bases left right → (c : Combination) × IsProductOfKeys bases left right c
@@ -41,10 +38,10 @@ keys_product_exists [] left right some h = absurd (omega arith)
 keys_product_exists (basis ∷ bases) [] right some h = absurd h.left_indices
 keys_product_exists (basis ∷ bases) (x ∷ k) [] some h = absurd h.right_indices
 keys_product_exists (basis ∷ []) (x ∷ k) (y ∷ l) some h =
-    let first = elements_product_exists basis x y h.left_indices.0 h.right_indices.0 (omega (arith, h.degree)) in
+    let first = elements_product_exists basis x y h.built.0 h.left_indices.0 h.right_indices.0 (omega (arith, h.degree)) in
     (first.0, one_component basis [] x y k l first.0 refl h first.1)
 keys_product_exists (basis ∷ next ∷ bases) (x ∷ k) (y ∷ l) some h =
-    let first = elements_product_exists basis x y h.left_indices.0 h.right_indices.0 (omega (arith, h.degree)) in
+    let first = elements_product_exists basis x y h.built.0 h.left_indices.0 h.right_indices.0 (omega (arith, h.degree)) in
     let others = keys_product_exists (next ∷ bases) k l (omega arith) (other_factors basis (next ∷ bases) x y k l h (omega arith)) in
     let dens : first.0.den * others.0.den ≡ 1 = λ i. first.1.whole i * others.1.whole i in
     let both = tensor_combination_exists first.0 others.0 first.1.canonical others.1.canonical (omega (arith, dens))
@@ -115,7 +112,7 @@ module _ (bases : List BasisId) (a b : Combination) (factors : AreFactors bases 
       let num = (term_at a.terms i).0 *ℤ (term_at b.terms j).0 in
       let p = keys_product_exists bases x y factors.some (factor_keys bases a b factors i j here there) in
       let room = next_room bases a b factors i j here there c so_far.gathered p.0 p.1 in
-      let new = added_exists c num p.0 so_far.canonical p.1.canonical (p.1.rank ∙ length-rows bases ∙ sym so_far.gathered.rank) so_far.gathered.whole room in (
+      let new = added_exists c num p.0 so_far.canonical p.1.canonical (p.1.rank ∙ sym so_far.gathered.rank) so_far.gathered.whole room in (
         new.0,
         record {
           canonical = new.1.canonical;
@@ -165,7 +162,7 @@ product_value a b ha hb same some within room =
     let fits : norm_of x.terms * norm_of y.terms * 2 ^ (5 * n) < 2 ^ 127 =
     subst (λ m. norm_of x.terms * norm_of y.terms * 2 ^ (5 * m) < 2 ^ 127) degree (room_of_norms _ a b room) in
     let factors : AreFactors a.bases x y =
-    record { some = some; left_over = of_indices a a.bases ha refl; right_over = of_indices b a.bases hb same; degree = small; room = fits } in
+    record { some = some; built = ha.built; left_over = of_indices a a.bases ha refl; right_over = of_indices b a.bases hb same; degree = small; room = fits } in
     let g = gathered_exists a.bases x y factors in
     let by : Ratio = record { num = pos 1; den = x.den * y.den } in
     let positive : 1 ≤ x.den * y.den = omega (arith, mul-le-mul ha.canonical.lowest.positive hb.canonical.lowest.positive) in
@@ -174,19 +171,13 @@ product_value a b ha hb same some within room =
     let c = multiple_exists g.0 by g.1.canonical positive (omega (arith, dens, whole)) (omega (arith, g.1.canonical.ordered.small)) in (
       record { bases = a.bases; combination = c.0 },
       record {
-        value = gathered_value a.bases n (x.den * y.den) x y g.0 c.0 ha.short small g.1 c.1.multiple c.1.canonical;
+        value = gathered_value a.bases n (x.den * y.den) x y g.0 c.0 ha.short ha.built small g.1 c.1.multiple c.1.canonical;
         over = refl;
         reads = λ ps long.
-            subst (λ bases. AgreeAt (leaf (rows_of a.bases) c.0.den c.0.terms) (product (reading_of a) (leaf (rows_of bases) y.den y.terms)) ps) (sym same)
+            subst (λ bases. AgreeAt (leaf a.bases c.0.den c.0.terms) (product (reading_of a) (leaf bases y.den y.terms)) ps) (sym same)
             (gathered_reads a.bases n x y g.0 c.0 g.1 c.1.multiple ps long);
       },
     )
-
--- the earlier checks of a row that passes
-passes_earlier : (checks later : List Check) → All Passes (checks ++ later) → All Passes checks
-passes_earlier [] later h = All-nil Passes
-passes_earlier (check ∷ checks) later h =
-    All-cons Passes check checks (All-head Passes check (checks ++ later) h) (passes_earlier checks later (All-tail Passes check (checks ++ later) h))
 
 first_false : (p q : Bool) → (p || q) ≡ false → p ≡ false
 first_false true q e = e
@@ -205,11 +196,11 @@ product_exists a b ha hb scalar pass =
     let common = passes_earlier (common_checks n a b) (product_room (5 * n) a b) pass in
     let room = passes_later (common_checks n a b) (product_room (5 * n) a b) pass in
     let long : length a.bases ≡ length b.bases = pass 0 (SameRank 0 0) (omega arith) in
-    let join : joined a.bases b.bases ≡ a.bases = joined-same a.bases b.bases long in
+    let join : joined a.bases b.bases ≡ a.bases = joined-same a.bases b.bases ha.built hb.built long in
     let within : n ≤ least_limit (joined a.bases b.bases) =
     passes_last (SameRank (length a.bases) (length b.bases) ∷ join_checks a.bases b.bases) (DegreeWithin n (least_limit (joined a.bases b.bases))) common in
     subst (λ bases. (v : Expansion) × Expands bases (product (reading_of a) (reading_of b)) v) (sym join)
-    (product_value a b ha hb (sym (same_bases a.bases b.bases long)) (some_components (length a.bases) (nat_eq (length b.bases) 0) scalar)
+    (product_value a b ha hb (sym (same_bases a.bases b.bases ha.built hb.built long)) (some_components (length a.bases) (nat_eq (length b.bases) 0) scalar)
     (subst (λ bases. n ≤ least_limit bases) join within) room)
 
 -- by whether one of the values is a scalar

@@ -4,13 +4,12 @@ use Rattle.std.specs.Prelude.{All, IfOk}
 use Rattle.std.proofs.lemmas.Result.{IfOk-weaker}
 use Rattle.hopf_num.specs.declared.room.Need.{Need}
 use Rattle.hopf_num.specs.Room.{HasRoom, IsFirstWithoutRoom}
-use Rattle.linear_combos.specs.Combos.{Combination}
+use Rattle.realisations.specs.Combinations.{Combination}
 use Rattle.linear_combos.specs.declared.combo.ComboFault.{ComboFault}
 use Rattle.linear_combos.specs.declared.combo.ComboFault.TheVariants.{TooLarge as fault_too_large, Memory as fault_memory}
 use Rattle.linear_combos.specs.Faults.{TestsRoom}
-use Rattle.hopf_laws.specs.declared.bases.BasisId.{BasisId}
-use Rattle.linear_combos.specs.Readings.{Reading, leaf, AgreeAt}
-use Rattle.hopf_laws.specs.Bases.{rows_of}
+use Rattle.basis_names.specs.declared.bases.BasisId.{BasisId}
+use Rattle.realisations.specs.Readings.{Reading, leaf, AgreeAt}
 use Rattle.hopf_laws.specs.Values.{Expansion, IsValue, Expands}
 use Rattle.basis_routes.specs.declared.refusal.Refusal.{Refusal}
 use Rattle.basis_routes.specs.Checks.{Tests, room_checks}
@@ -37,14 +36,14 @@ answer_has P Q bases (Err fault_memory) result e p q =
 -- a value over the bases reads as its combination does
 pub answer_expands : (P : Combination → Type 0) (bases : List BasisId) (reading : Reading) (combo : Result Combination ComboFault) (result : Result Expansion Refusal)
     → IsAnswerOver bases combo result → IfOk combo P → IfOk result IsValue
-    → ((c : Combination) → P c → (ps : List (List ℕ)) → length ps ≡ length bases → AgreeAt (leaf (rows_of bases) c.den c.terms) reading ps)
+    → ((c : Combination) → P c → (ps : List (List ℕ)) → length ps ≡ length bases → AgreeAt (leaf bases c.den c.terms) reading ps)
     → IfOk result (Expands bases reading)
 answer_expands P bases reading combo result e p value reads =
     IfOk-weaker result (λ (v : Expansion). (v.bases ≡ bases) × P v.combination × IsValue v) (Expands bases reading)
     (λ v h. record {
       value = h.2;
       over = h.0;
-      reads = λ ps long. subst (λ bs. AgreeAt (leaf (rows_of bs) v.combination.den v.combination.terms) reading ps) (sym h.0) (reads v.combination h.1 ps long);
+      reads = λ ps long. subst (λ bs. AgreeAt (leaf bs v.combination.den v.combination.terms) reading ps) (sym h.0) (reads v.combination h.1 ps long);
     })
     (answer_has P IsValue bases combo result e p value)
 

@@ -2,8 +2,8 @@
 use Rattle.std.proofs.Common.{◌≡◌, ℕ, ◌+◌, ◌*◌, ◌^◌, ◌<◌, ◌≤◌, ◌⊎◌, inl, inr, Bool, true, false, ◌++◌, length, refl, sym, subst, arith}
 use Rattle.std.specs.Prelude.{All, if◌then◌else◌, nat_eq, ◌||◌}
 use Rattle.std.proofs.lemmas.Bool.{eqb-true}
-use Rattle.linear_combos.specs.Combos.{norm_of}
-use Rattle.linear_combos.specs.Readings.{tensor, product}
+use Rattle.realisations.specs.Combinations.{norm_of}
+use Rattle.realisations.specs.Readings.{tensor, product}
 use Rattle.hopf_laws.specs.Values.{Expansion, IsValue, Expands, reading_of}
 use Rattle.basis_routes.specs.Checks.{Passes}
 use Rattle.basis_routes.specs.Joins.{joined}

@@ -9,12 +9,12 @@ use Rattle.hopf_num.specs.Divisors.{IsLcm}
 use Rattle.hopf_num.specs.declared.room.Need.TheVariants.{CommonDenominator, Sum}
 use Rattle.hopf_num.proofs.CommonDivisors.{lcm-pos, common_room}
 use Rattle.hopf_num.proofs.Ring.{+ℤ-*ℤ}
-use Rattle.linear_combos.specs.Readings.{Terms}
-use Rattle.linear_combos.specs.Combos.{Combination, IsCanonical, HasKey, norm_of, term_at, weighed}
+use Rattle.realisations.specs.Readings.{Terms}
+use Rattle.realisations.specs.Combinations.{Combination, IsCanonical, HasKey, norm_of, term_at, weighed}
 use Rattle.linear_combos.specs.Merges.{IsCombined}
-use Rattle.linear_combos.proofs.LowestCombos.{times_turned}
+use Rattle.realisations.proofs.Agreement.{times_turned}
 use Rattle.linear_combos.proofs.SumsOfCombos.{IsSignedSum-combined, IsSum-signed, IsDifference-signed}
-use Rattle.hopf_laws.specs.declared.bases.BasisId.{BasisId}
+use Rattle.basis_names.specs.declared.bases.BasisId.{BasisId}
 use Rattle.hopf_laws.specs.Bases.{least_limit}
 use Rattle.hopf_laws.specs.Values.{Expansion, IsValue, Expands, degree_of_value}
 use Rattle.basis_routes.specs.declared.checks.Check.{Check}
@@ -168,9 +168,9 @@ sum_exists m minus a b ha hb least pass =
     let over = sum_over minus a b e.0 ha hb long e.2 in (
       record { bases = joined a.bases b.bases; combination = e.0 },
       record {
-        value = record { short = over.short; rank = over.rank; canonical = e.1; indices = over.indices; degrees = over.degrees };
+        value = record { short = over.short; built = over.built; rank = over.rank; canonical = e.1; indices = over.indices; degrees = over.degrees };
         over = refl;
-        reads = λ ps size. sum_reads minus a b e.0 long e.2 ps;
+        reads = λ ps size. sum_reads minus a b e.0 ha hb long e.2 ps;
       },
     )
 

@@ -14,8 +14,9 @@ use Rattle.hopf_num.specs.declared.room.Need.{Need}
 use Rattle.hopf_num.specs.declared.room.NumFault.{NumFault}
 use Rattle.std.specs.Result.{is_err}
 use Rattle.hopf_num.specs.declared.room.Need.TheVariants.{CommonDenominator, Sum}
-use Rattle.linear_combos.specs.Combos.{Combination, IsMultiple, weighed}
-use Rattle.linear_combos.proofs.LowestCombos.{times_turned}
+use Rattle.realisations.specs.Combinations.{Combination, weighed}
+use Rattle.linear_combos.specs.Combos.{IsMultiple}
+use Rattle.realisations.proofs.Agreement.{times_turned}
 use Rattle.hopf_num.proofs.Ring.{*ℤ_assoc, *ℤ-neg_ℤ, +ℤ-*ℤ}
 use Rattle.hopf_laws.specs.Bases.{least_limit}
 use Rattle.hopf_laws.specs.Values.{Expansion, IsValue, degree_of_value}
@@ -35,9 +36,9 @@ pub degree_of_sum : (a b : Expansion) → IsValue a → IsValue b → length a.b
     → max (degree_of_value a) (degree_of_value b) ≤ least_limit (joined a.bases b.bases)
 degree_of_sum a b ha hb long =
     let right : degree_of_value b ≤ least_limit a.bases =
-    subst (λ bases. degree_of_value b ≤ least_limit bases) (sym (same_bases a.bases b.bases long)) (degree_within b hb) in
+    subst (λ bases. degree_of_value b ≤ least_limit bases) (sym (same_bases a.bases b.bases ha.built hb.built long)) (degree_within b hb) in
     let both : max (degree_of_value a) (degree_of_value b) ≤ least_limit a.bases = omega (arith, degree_within a ha, right) in
-    subst (λ bases. max (degree_of_value a) (degree_of_value b) ≤ least_limit bases) (sym (joined-same a.bases b.bases long)) both
+    subst (λ bases. max (degree_of_value a) (degree_of_value b) ≤ least_limit bases) (sym (joined-same a.bases b.bases ha.built hb.built long)) both
 
 -- so the joins are the only checks that are left once the ranks are equal
 pub tests_common : {T : Type 0} (a b : Expansion) (result : Result T Refusal) → IsValue a → IsValue b → length a.bases ≡ length b.bases

@@ -2,39 +2,50 @@
 use Rattle.std.proofs.Common.{◌≡◌, ℕ, ◌*◌, ◌≤◌, ◌⊎◌, inl, inr, List, [], ◌∷◌, length, refl, sym, ◌∙◌, ap, subst, arith}
 use Rattle.std.proofs.Math.IntN.{ℤ, pos, negsuc, ◌+ℤ◌, ◌*ℤ◌, pos-*ℤ-pos, *ℤ_comm, *ℤ-one, one}
 use Rattle.hopf_num.proofs.Ring.{*ℤ-neg_ℤ}
-use Rattle.linear_combos.specs.Combos.{Combination, HasKey}
-use Rattle.linear_combos.specs.Indices.{AreIndices, total_degree}
-use Rattle.linear_combos.specs.Readings.{leaf, occurrence, numerator, AgreeAt}
-use Rattle.hopf_laws.specs.declared.bases.BasisId.{BasisId}
-use Rattle.hopf_laws.specs.declared.bases.BasisId.TheVariants.{QsymM}
-use Rattle.hopf_laws.specs.Bases.{rows_of, least_limit}
+use Rattle.realisations.specs.Combinations.{Combination, HasKey}
+use Rattle.realisations.specs.Indices.{AreIndices, total_degree}
+use Rattle.realisations.specs.Readings.{leaf, occurrence, numerator, AgreeAt}
+use Rattle.basis_names.specs.declared.bases.BasisId.{BasisId}
+use Rattle.basis_names.specs.declared.bases.BasisId.TheVariants.{QsymM}
+use Rattle.hopf_laws.specs.Bases.{AreBuilt, least_limit}
 use Rattle.hopf_laws.specs.Values.{Expansion, IsValue}
-use Rattle.std.specs.Prelude.{All, Bool, true, false, neg_ℤ}
+use Rattle.std.specs.Prelude.{All, Bool, true, false, neg_ℤ, unwrap_or}
 use Rattle.basis_routes.specs.declared.checks.Check.TheVariants.{SameRank}
 use Rattle.basis_routes.specs.Checks.{Passes}
+use Rattle.basis_routes.specs.JoinTable.{join_of}
 use Rattle.basis_routes.specs.Joins.{joined}
+use Rattle.hopf_laws.proofs.BuiltBases.{only_built}
 use Rattle.hopf_ops.specs.Operations.{common_checks, sum_or_difference_of}
 use Rattle.hopf_ops.specs.Answers.{IsOver, IsSumOrDifference}
 
--- while there is one basis, lists of one length are the same, and so are their joins
-pub same_bases : (lefts rights : List BasisId) → length lefts ≡ length rights → lefts ≡ rights
-same_bases [] [] e = refl
-same_bases [] (right ∷ rights) e = absurd (omega arith)
-same_bases (left ∷ lefts) [] e = absurd (omega arith)
-same_bases (QsymM ∷ lefts) (QsymM ∷ rights) e = ap (λ bases. QsymM ∷ bases) (same_bases lefts rights (omega arith))
+-- while there is one built basis, lists of one length are the same, and so are their joins
+pub same_bases : (lefts rights : List BasisId) → AreBuilt lefts → AreBuilt rights → length lefts ≡ length rights → lefts ≡ rights
+same_bases [] [] hl hr e = refl
+same_bases [] (right ∷ rights) hl hr e = absurd (omega arith)
+same_bases (left ∷ lefts) [] hl hr e = absurd (omega arith)
+same_bases (left ∷ lefts) (right ∷ rights) hl hr e =
+    let first : left ≡ right = only_built left hl.0 ∙ sym (only_built right hr.0) in
+    let others = same_bases lefts rights hl.1 hr.1 (omega arith) in
+    λ i. first i ∷ others i
 
-pub joined-same : (lefts rights : List BasisId) → length lefts ≡ length rights → joined lefts rights ≡ lefts
-joined-same [] rights e = refl
-joined-same (left ∷ lefts) [] e = absurd (omega arith)
-joined-same (QsymM ∷ lefts) (QsymM ∷ rights) e = ap (λ bases. QsymM ∷ bases) (joined-same lefts rights (omega arith))
+join-same : (left right : BasisId) → left ≡ QsymM → right ≡ QsymM → unwrap_or (join_of left right) left ≡ left
+join-same left right l r = rw (l, r) refl
+
+pub joined-same : (lefts rights : List BasisId) → AreBuilt lefts → AreBuilt rights → length lefts ≡ length rights → joined lefts rights ≡ lefts
+joined-same [] rights hl hr e = refl
+joined-same (left ∷ lefts) [] hl hr e = absurd (omega arith)
+joined-same (left ∷ lefts) (right ∷ rights) hl hr e =
+    let first = join-same left right (only_built left hl.0) (only_built right hr.0) in
+    let others = joined-same lefts rights hl.1 hr.1 (omega arith) in
+    λ i. first i ∷ others i
 
 -- keys of one of two values over the same bases
 key_of_either : (a b : Expansion) → IsValue a → IsValue b → a.bases ≡ b.bases → (key : List (List ℕ)) → HasKey a.combination.terms key ⊎ HasKey b.combination.terms key
-    → AreIndices (rows_of a.bases) key × (total_degree (rows_of a.bases) key ≤ least_limit a.bases)
+    → AreIndices a.bases key × (total_degree a.bases key ≤ least_limit a.bases)
 key_of_either a b ha hb same key (inl has) = (ha.indices key has, ha.degrees key has)
 key_of_either a b ha hb same key (inr has) = (
-  subst (λ bases. AreIndices (rows_of bases) key) (sym same) (hb.indices key has),
-  subst (λ bases. total_degree (rows_of bases) key ≤ least_limit bases) (sym same) (hb.degrees key has),
+  subst (λ bases. AreIndices bases key) (sym same) (hb.indices key has),
+  subst (λ bases. total_degree bases key ≤ least_limit bases) (sym same) (hb.degrees key has),
 )
 
 rank_of : (minus : Bool) (a b c : Combination) → IsSumOrDifference minus a b c → c.rank ≡ a.rank
@@ -49,9 +60,10 @@ keys_of false a b c is = is.keys
 pub sum_over : (minus : Bool) (a b : Expansion) (c : Combination) → IsValue a → IsValue b → length a.bases ≡ length b.bases
     → IsSumOrDifference minus a.combination b.combination c → IsOver (joined a.bases b.bases) c
 sum_over minus a b c ha hb long is =
-    let same = same_bases a.bases b.bases long in
-    subst (λ bases. IsOver bases c) (sym (joined-same a.bases b.bases long)) (record {
+    let same = same_bases a.bases b.bases ha.built hb.built long in
+    subst (λ bases. IsOver bases c) (sym (joined-same a.bases b.bases ha.built hb.built long)) (record {
       short = ha.short;
+      built = ha.built;
       rank = rank_of minus a.combination b.combination c is ∙ ha.rank;
       indices = λ key has. (key_of_either a b ha hb same key (keys_of minus a.combination b.combination c is key has)).0;
       degrees = λ key has. (key_of_either a b ha hb same key (keys_of minus a.combination b.combination c is key has)).1;
@@ -63,18 +75,18 @@ times-minus_one z = *ℤ_comm (negsuc 0) z ∙ *ℤ-neg_ℤ z (pos 1) ∙ ap neg
 
 -- over the same bases it reads as the sum or difference
 reads_over : (minus : Bool) (bases : List BasisId) (a b c : Combination) → IsSumOrDifference minus a b c → (ps : List (List ℕ))
-    → AgreeAt (leaf (rows_of bases) c.den c.terms) (sum_or_difference_of minus (record { bases = bases; combination = a }) (record { bases = bases; combination = b })) ps
+    → AgreeAt (leaf bases c.den c.terms) (sum_or_difference_of minus (record { bases = bases; combination = a }) (record { bases = bases; combination = b })) ps
 reads_over false bases a b c is ps =
-    ap (λ z. numerator (leaf (rows_of bases) c.den c.terms) ps *ℤ z) (sym (pos-*ℤ-pos a.den b.den))
-    ∙ is.weighs (λ key. pos (occurrence (rows_of bases) key ps))
+    ap (λ z. numerator (leaf bases c.den c.terms) ps *ℤ z) (sym (pos-*ℤ-pos a.den b.den))
+    ∙ is.weighs (λ key. pos (occurrence bases key ps))
 reads_over true bases a b c is ps =
-    let right = numerator (leaf (rows_of bases) b.den b.terms) ps in
+    let right = numerator (leaf bases b.den b.terms) ps in
     let den : pos (a.den * (1 * b.den)) ≡ pos a.den *ℤ pos b.den = ap (λ n. pos (a.den * n)) (one-mul b.den) ∙ sym (pos-*ℤ-pos a.den b.den) in
-    let value : (numerator (leaf (rows_of bases) a.den a.terms) ps *ℤ pos b.den) +ℤ neg_ℤ (right *ℤ pos a.den)
-    ≡ (numerator (leaf (rows_of bases) a.den a.terms) ps *ℤ pos (1 * b.den)) +ℤ ((negsuc 0 *ℤ right) *ℤ pos a.den) =
-    (λ i. (numerator (leaf (rows_of bases) a.den a.terms) ps *ℤ pos (sym (one-mul b.den) i)) +ℤ negated right a.den i) in
-    ap (λ z. numerator (leaf (rows_of bases) c.den c.terms) ps *ℤ z) den
-    ∙ is.weighs (λ key. pos (occurrence (rows_of bases) key ps))
+    let value : (numerator (leaf bases a.den a.terms) ps *ℤ pos b.den) +ℤ neg_ℤ (right *ℤ pos a.den)
+    ≡ (numerator (leaf bases a.den a.terms) ps *ℤ pos (1 * b.den)) +ℤ ((negsuc 0 *ℤ right) *ℤ pos a.den) =
+    (λ i. (numerator (leaf bases a.den a.terms) ps *ℤ pos (sym (one-mul b.den) i)) +ℤ negated right a.den i) in
+    ap (λ z. numerator (leaf bases c.den c.terms) ps *ℤ z) den
+    ∙ is.weighs (λ key. pos (occurrence bases key ps))
     ∙ ap (λ z. z *ℤ pos c.den) value
   where
     one-mul : (n : ℕ) → 1 * n ≡ n
@@ -86,12 +98,12 @@ reads_over true bases a b c is ps =
         ∙ ap (λ y. y *ℤ pos n) (sym (times-minus_one z))
 
 -- so it reads over the joined bases
-pub sum_reads : (minus : Bool) (a b : Expansion) (c : Combination) → length a.bases ≡ length b.bases → IsSumOrDifference minus a.combination b.combination c
-    → (ps : List (List ℕ)) → AgreeAt (leaf (rows_of (joined a.bases b.bases)) c.den c.terms) (sum_or_difference_of minus a b) ps
-sum_reads minus a b c long is ps =
-    let same = same_bases a.bases b.bases long in
-    subst (λ bases. AgreeAt (leaf (rows_of bases) c.den c.terms) (sum_or_difference_of minus a b) ps) (sym (joined-same a.bases b.bases long))
-    (subst (λ bases. AgreeAt (leaf (rows_of a.bases) c.den c.terms) (sum_or_difference_of minus a (record { bases = bases; combination = b.combination })) ps) same
+pub sum_reads : (minus : Bool) (a b : Expansion) (c : Combination) → IsValue a → IsValue b → length a.bases ≡ length b.bases → IsSumOrDifference minus a.combination b.combination c
+    → (ps : List (List ℕ)) → AgreeAt (leaf ((joined a.bases b.bases)) c.den c.terms) (sum_or_difference_of minus a b) ps
+sum_reads minus a b c ha hb long is ps =
+    let same = same_bases a.bases b.bases ha.built hb.built long in
+    subst (λ bases. AgreeAt (leaf bases c.den c.terms) (sum_or_difference_of minus a b) ps) (sym (joined-same a.bases b.bases ha.built hb.built long))
+    (subst (λ bases. AgreeAt (leaf a.bases c.den c.terms) (sum_or_difference_of minus a (record { bases = bases; combination = b.combination })) ps) same
     (reads_over minus a.bases a.combination b.combination c is ps))
 
 -- two values that pass their common checks have one rank

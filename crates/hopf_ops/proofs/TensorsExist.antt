@@ -8,9 +8,10 @@ use Rattle.std.proofs.lemmas.List.{length-append, get_or_default}
 use Rattle.std.proofs.lemmas.List.Elements.{All-nil, All-append, All-map}
 use Rattle.std.proofs.lemmas.List.Sums.{sum_by-cons, sum_by-append}
 use Rattle.hopf_num.proofs.Ring.{*ℤ-+ℤ, *ℤ_assoc}
-use Rattle.linear_combos.specs.Readings.{Terms, tensor}
-use Rattle.linear_combos.specs.Combos.{Combination, IsCanonical, IsTensor, HasKey, norm_of, weighed}
-use Rattle.linear_combos.proofs.Coefficients.{Codes}
+use Rattle.realisations.specs.Readings.{Terms, tensor}
+use Rattle.realisations.specs.Combinations.{Combination, IsCanonical, HasKey, norm_of, weighed}
+use Rattle.linear_combos.specs.Combos.{IsTensor}
+use Rattle.realisations.proofs.Coefficients.{Codes}
 use Rattle.hopf_laws.specs.Bases.{least_limit}
 use Rattle.hopf_laws.specs.Values.{Expansion, IsValue, Expands, reading_of, degree_of_value}
 use Rattle.basis_routes.specs.declared.checks.Check.TheVariants.{Scalar}

@@ -1,11 +1,12 @@
 -- From combinations to values.
 use Rattle.std.specs.Prelude.{◌≡◌, ℕ, ◌≤◌, Bool, true, false, List, length, Result, Ok, Err}
-use Rattle.linear_combos.specs.Combos.{Combination, HasKey, IsSum, IsDifference}
-use Rattle.linear_combos.specs.Indices.{AreIndices, total_degree}
+use Rattle.realisations.specs.Combinations.{Combination, HasKey}
+use Rattle.linear_combos.specs.Combos.{IsSum, IsDifference}
+use Rattle.realisations.specs.Indices.{AreIndices, total_degree}
 use Rattle.linear_combos.specs.declared.combo.ComboFault.{ComboFault}
 use Rattle.linear_combos.specs.declared.combo.ComboFault.TheVariants.{TooLarge, Memory}
-use Rattle.hopf_laws.specs.declared.bases.BasisId.{BasisId}
-use Rattle.hopf_laws.specs.Bases.{rows_of, least_limit}
+use Rattle.basis_names.specs.declared.bases.BasisId.{BasisId}
+use Rattle.hopf_laws.specs.Bases.{AreBuilt, least_limit}
 use Rattle.hopf_laws.specs.Values.{Expansion}
 use Rattle.basis_routes.specs.declared.refusal.Refusal.{Refusal}
 use Rattle.basis_routes.specs.declared.refusal.Refusal.TheVariants.{TooLarge as refused_too_large, Memory as refused_memory}
@@ -13,9 +14,10 @@ use Rattle.basis_routes.specs.declared.refusal.Refusal.TheVariants.{TooLarge as 
 -- all that a canonical combination owes to be a value over these bases
 pub record IsOver (bases : List BasisId) (c : Combination) : Type 0 where
   pub short : length bases ≤ 3
+  pub built : AreBuilt bases
   pub rank : c.rank ≡ length bases
-  pub indices : (key : List (List ℕ)) → HasKey c.terms key → AreIndices (rows_of bases) key
-  pub degrees : (key : List (List ℕ)) → HasKey c.terms key → total_degree (rows_of bases) key ≤ least_limit bases
+  pub indices : (key : List (List ℕ)) → HasKey c.terms key → AreIndices bases key
+  pub degrees : (key : List (List ℕ)) → HasKey c.terms key → total_degree bases key ≤ least_limit bases
 
 -- a combination becomes the value over the bases, and a fault the refusal of its name
 abbrev pub IsAnswerOver : List BasisId → Result Combination ComboFault → Result Expansion Refusal → Type 0

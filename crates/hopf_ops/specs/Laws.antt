@@ -1,7 +1,7 @@
 -- The law of existence: where all checks of an operation pass, there is a value that it answers.
 use Rattle.std.specs.Prelude.{◌⊎◌, ℕ, Bool, List, ◌++◌, All}
 use Rattle.hopf_num.specs.Divisors.{IsLcm}
-use Rattle.linear_combos.specs.Readings.{tensor}
+use Rattle.realisations.specs.Readings.{tensor}
 use Rattle.hopf_laws.specs.Values.{Expansion, IsValue, Expands, reading_of}
 use Rattle.basis_routes.specs.declared.checks.Check.{Check}
 use Rattle.basis_routes.specs.declared.refusal.Refusal.{Refusal}

@@ -2,9 +2,9 @@
 use Rattle.std.specs.Prelude.{ℕ, ◌+◌, ◌*◌, max, ◌||◌, if◌then◌else◌, Bool, true, false, negsuc, List, [], ◌∷◌, ◌++◌, length, nat_eq, unsigned_abs}
 use Rattle.hopf_num.specs.Fractions.{reciprocal}
 use Rattle.hopf_num.specs.Room.{product_rule, sum_rule}
-use Rattle.linear_combos.specs.Combos.{norm_of}
-use Rattle.linear_combos.specs.Readings.{Reading, product, tensor, sum_of, multiple}
-use Rattle.hopf_laws.specs.declared.bases.BasisId.{BasisId}
+use Rattle.realisations.specs.Combinations.{norm_of}
+use Rattle.realisations.specs.Readings.{Reading, product, tensor, sum_of, multiple}
+use Rattle.basis_names.specs.declared.bases.BasisId.{BasisId}
 use Rattle.hopf_laws.specs.Bases.{least_limit}
 use Rattle.hopf_laws.specs.Values.{Expansion, reading_of, ratio_of, degree_of_value}
 use Rattle.basis_routes.specs.declared.checks.Check.{Check}

@@ -1,7 +1,8 @@
 //! The product of two combinations over the same bases, gathered from the products of their keys.
 ghost use Rattle.std.specs.Prelude.{◌≡◌, ◌+◌, ◌*◌, ◌*ℤ◌, ◌^◌, ◌<◌, ◌≤◌, length, drop, unsigned_abs, IfOk, OnOk};
-ghost use Rattle.linear_combos.specs.Combos.{IsCanonical, IsTensor, norm_of};
-ghost use Rattle.hopf_laws.specs.Bases.{rows_of, least_limit};
+ghost use Rattle.realisations.specs.Combinations.{IsCanonical, norm_of};
+ghost use Rattle.linear_combos.specs.Combos.{IsTensor};
+ghost use Rattle.hopf_laws.specs.Bases.{AreBuilt, least_limit};
 ghost use Rattle.hopf_laws.specs.Values.{greatest_degree};
 ghost use Rattle.hopf_ops.specs.Gathering.{IsOfIndices, IsGathered, AreFactors, AreFactorKeys, IsProductOfKeys, AreGathered, AddsMultiple};
 
@@ -20,11 +21,12 @@ pub(crate) fn gathered_products(
     b: &Combo,
 ) -> Result<Combo, OutOfMemory>
     requires some { 1 ≤ length bases.now }
+    requires built { AreBuilt bases.now }
     requires left { IsOfIndices bases.now a.now }
     requires right { IsOfIndices bases.now b.now }
-    requires degree { greatest_degree (rows_of bases.now) a.now.terms + greatest_degree (rows_of bases.now) b.now.terms ≤ least_limit bases.now }
-    requires room { norm_of a.now.terms * norm_of b.now.terms * 2 ^ (5 * (greatest_degree (rows_of bases.now) a.now.terms + greatest_degree (rows_of bases.now) b.now.terms)) < 2 ^ 127 }
-    ensures { IfOk result (IsGathered bases.now (greatest_degree (rows_of bases.now) a.now.terms + greatest_degree (rows_of bases.now) b.now.terms) a.now b.now) }
+    requires degree { greatest_degree bases.now a.now.terms + greatest_degree bases.now b.now.terms ≤ least_limit bases.now }
+    requires room { norm_of a.now.terms * norm_of b.now.terms * 2 ^ (5 * (greatest_degree bases.now a.now.terms + greatest_degree bases.now b.now.terms)) < 2 ^ 127 }
+    ensures { IfOk result (IsGathered bases.now (greatest_degree bases.now a.now.terms + greatest_degree bases.now b.now.terms) a.now b.now) }
 {
     let mut out = Combo::zero(alloc, bases.len());
     add_products(alloc, &mut out, bases, a, b)?;

@@ -1,6 +1,6 @@
 //! Tensor products, and products.
 ghost use Rattle.std.specs.Prelude.{◌≡◌, ◌+◌, ◌*◌, ◌≤◌, [], ◌++◌, length, All, IfOk};
-ghost use Rattle.linear_combos.specs.Readings.{product as multiply, tensor as tensor_of};
+ghost use Rattle.realisations.specs.Readings.{product as multiply, tensor as tensor_of};
 ghost use Rattle.hopf_laws.specs.Bases.{least_limit};
 ghost use Rattle.hopf_laws.specs.Values.{Expands, reading_of, degree_of_value};
 ghost use Rattle.basis_routes.specs.Checks.{Passes, Tests};

@@ -3,9 +3,9 @@ ghost use Rattle.std.specs.Prelude.{◌≡◌, ℕ, ◌*◌, ◌^◌, ◌<◌, p
 ghost use Rattle.std.specs.Int.{◌∣◌};
 ghost use Rattle.hopf_num.specs.Divisors.{IsLcm};
 ghost use Rattle.hopf_num.specs.Room.{sum_rule};
-ghost use Rattle.linear_combos.specs.Combos.{IsCanonical, norm_of};
+ghost use Rattle.realisations.specs.Combinations.{IsCanonical, norm_of};
 ghost use Rattle.linear_combos.specs.Faults.{TestsRoom};
-ghost use Rattle.linear_combos.specs.Readings.{sum_of};
+ghost use Rattle.realisations.specs.Readings.{sum_of};
 ghost use Rattle.hopf_laws.specs.Values.{Expands, reading_of};
 ghost use Rattle.basis_routes.specs.Checks.{Tests};
 ghost use Rattle.basis_routes.specs.Joins.{joined};

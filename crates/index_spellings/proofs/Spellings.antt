@@ -4,7 +4,7 @@ use Rattle.std.specs.Prelude.{nat_le}
 use Rattle.std.specs.List.{sum}
 use Rattle.std.proofs.lemmas.Bool.{leb-true, le-leb}
 use Rattle.linear_combos.specs.Codes.{IsCode}
-use Rattle.linear_combos.specs.Indices.{IsComposition}
+use Rattle.realisations.specs.IndexKinds.{IsComposition}
 use Rattle.compositions.proofs.Parts.{code_from_composition}
 use Rattle.session_tokens.specs.declared.lexeme.Lexeme.{Lexeme}
 use Rattle.index_spellings.specs.Compositions.{before, numbers_in, all_positive, as_composition, composition_in}

@@ -4,9 +4,9 @@ use Rattle.basis_names.specs.declared.bases.BasisId.{BasisId}
 use Rattle.basis_names.specs.declared.bases.BasisId.TheVariants.{QsymM, QsymF, NcsfS, NcsfL, NcsfR, FqsymF, FqsymG, WqsymM, FsymS, PbtP}
 use Rattle.basis_names.specs.Bases.{algebra_of, limit_of}
 use Rattle.session_tokens.specs.declared.lexeme.Lexeme.{Lexeme}
-use Rattle.session_tokens.specs.declared.lexeme.Lexeme.TheVariants as lex
 use Rattle.session_grammar.specs.Grammar.{inside}
 use Rattle.index_spellings.specs.Compositions.{composition_in}
+use Rattle.session_tokens.specs.declared.lexeme.Lexeme.TheVariants as lex
 
 -- the composition, within the limit of the algebra of the basis, that a list with these items spells
 abbrev pub composition_of : BasisId → List Lexeme → Option (List ℕ)

@@ -6,11 +6,12 @@ use Rattle.std.specs.List.{insert, remove}
 use Rattle.std.proofs.lemmas.Bool.{cases_lt}
 use Rattle.std.proofs.lemmas.List.Edits.{length-insert, get_or-insert_below, get_or-insert_at, get_or-insert_above, length-remove, get_or-remove_below, get_or-remove_above}
 use Rattle.std.proofs.lemmas.List.Sums.{sum_by-insert, sum_by-remove}
-use Rattle.linear_combos.specs.Readings.{Terms}
+use Rattle.realisations.specs.Readings.{Terms}
 use Rattle.linear_combos.proofs.Weights.{weighed-insert}
-use Rattle.linear_combos.specs.Combos.{key_cmp, term_at, norm_of, HasRisingKeys, HasKey, IsGapFor, AreTerms, IsLowest, IsCanonical, AddsTerm}
-use Prim.Native.Nat.{one}
+use Rattle.realisations.specs.Combinations.{key_cmp, term_at, norm_of, HasRisingKeys, HasKey, AreTerms, IsLowest, IsCanonical, AddsTerm}
+use Rattle.linear_combos.specs.Combos.{IsGapFor}
 use Rattle.std.proofs.Math.Nat.{eq-one_of_dvd-one}
+use Prim.Native.Nat.{one}
 
 -- two terms that are equal to two in order are in order
 less_from : (a b c d : ℤ × List (List ℕ)) → a ≡ c → b ≡ d → key_cmp c.1 d.1 ≡ Less → key_cmp a.1 b.1 ≡ Less

@@ -6,7 +6,7 @@ use Rattle.std.specs.Ordering.{int_eq}
 use Rattle.std.specs.Cmp.Lexicographic.{pointwise}
 use Rattle.std.proofs.lemmas.Bool.Decides.{Decides-and, Decides-int_eq}
 use Rattle.std.proofs.lemmas.Slice.Eq.{slice_eq-Decides, bytes_eq-Decides}
-use Rattle.linear_combos.specs.Readings.{Terms}
+use Rattle.realisations.specs.Readings.{Terms}
 
 -- whether two terms are equal
 abbrev term_eq : ℤ × List (List ℕ) → ℤ × List (List ℕ) → Bool

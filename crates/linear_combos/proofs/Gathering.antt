@@ -6,11 +6,13 @@ use Rattle.std.specs.declared.cmp.Ordering.TheVariants.{Less, Equal, Greater}
 use Rattle.std.specs.List.{insert, remove}
 use Rattle.std.proofs.lemmas.Int.{ints}
 use Rattle.std.proofs.lemmas.List.Sums.{sum_by-cons, sum_by-insert, sum_by-set, sum_by-remove}
-use Rattle.linear_combos.specs.Readings.{Terms}
-use Rattle.linear_combos.specs.Combos.{key_cmp, term_at, norm_of, weighed, HasRisingKeys, HasKey, IsAt, IsGapFor, AreTerms, AddsTerm}
+use Rattle.realisations.specs.Readings.{Terms}
+use Rattle.realisations.specs.Combinations.{key_cmp, term_at, norm_of, weighed, HasRisingKeys, HasKey, AreTerms, AddsTerm}
+use Rattle.linear_combos.specs.Combos.{IsAt, IsGapFor}
 use Rattle.linear_combos.specs.Merges.{GreaterFrom}
 use Rattle.hopf_num.proofs.SumsOfProducts.{abs_sum}
-use Rattle.linear_combos.proofs.Place.{same_key, smaller_up_to, greater_from}
+use Rattle.realisations.proofs.KeyOrders.{same_key}
+use Rattle.linear_combos.proofs.Place.{smaller_up_to, greater_from}
 use Rattle.linear_combos.proofs.Edits.{insert_terms, remove_terms, set_terms, keys-remove, keys-set, adds-insert, zero_canonical}
 use Rattle.linear_combos.proofs.Weights.{weighed-set, weighed-remove}
 

@@ -11,18 +11,16 @@ use Rattle.std.proofs.lemmas.List.Edits.{map_over_more}
 use Rattle.std.proofs.lemmas.List.Sums.{sum_by-cons, sum_by-insert}
 use Rattle.hopf_num.proofs.Ring.{*ℤ_assoc, +ℤ-*ℤ}
 use Rattle.hopf_num.proofs.LowestTerms.{abs-int_div, int_div-times, positive-quotient}
-use Rattle.linear_combos.specs.Readings.{Terms}
-use Rattle.linear_combos.specs.Combos.{key_cmp, term_at, norm_of, weighed, HasKey, IsGapFor, AreTerms, IsLowest, IsCanonical, AddsTerm}
+use Rattle.realisations.specs.Readings.{Terms}
+use Rattle.realisations.specs.Combinations.{key_cmp, term_at, norm_of, weighed, HasKey, AreTerms, IsLowest, IsCanonical, AddsTerm}
+use Rattle.linear_combos.specs.Combos.{IsGapFor}
 use Rattle.linear_combos.specs.Merges.{IsCommon, IsUnreduced, IsOver, quotients}
+use Rattle.realisations.proofs.Agreement.{times_turned}
 use Rattle.linear_combos.proofs.Edits.{insert_terms, insert_each, adds-insert}
 
 -- a term at the end stands in the last gap
 pub push-insert : (ts : Terms) (n : ℤ) (key : List (List ℕ)) → ts ++ (n, key) ∷ [] ≡ insert ts (length ts) (n, key)
 push-insert ts n key = simp (take_all (length ts) ts (omega arith), drop_all (length ts) ts (omega arith))
-
--- the last two factors of three change places
-pub times_turned : (a b c : ℤ) → (a *ℤ b) *ℤ c ≡ (a *ℤ c) *ℤ b
-times_turned a b c = sym (*ℤ_assoc a b c) ∙ ap (λ z. a *ℤ z) (*ℤ_comm b c) ∙ *ℤ_assoc a c b
 
 -- the common divisor with one numerator more
 pub IsCommon-push : (den : ℕ) (ts : Terms) (n : ℤ) (key : List (List ℕ)) (g h : ℕ) → IsCommon den ts g → IsGcd (unsigned_abs n) g h

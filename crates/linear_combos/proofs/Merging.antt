@@ -9,13 +9,16 @@ use Rattle.std.proofs.lemmas.List.{take_more, take_all, get_or_default}
 use Rattle.std.proofs.lemmas.List.Sums.{sum_by_more, sum_by-take-le}
 use Rattle.hopf_num.proofs.Ring.{+ℤ-*ℤ}
 use Rattle.hopf_num.proofs.SumsOfProducts.{abs_sum}
-use Rattle.linear_combos.specs.Readings.{Terms}
-use Rattle.linear_combos.specs.Combos.{Combination, key_cmp, term_at, norm_of, weighed, HasRisingKeys, HasKey, IsGapFor, AddsTerm}
+use Rattle.realisations.specs.Readings.{Terms}
+use Rattle.realisations.specs.Combinations.{Combination, key_cmp, term_at, norm_of, weighed, HasRisingKeys, HasKey, AddsTerm}
+use Rattle.linear_combos.specs.Combos.{IsGapFor}
 use Rattle.linear_combos.specs.Merges.{GreaterFrom, IsNext, IsMerged, IsOver, IsCombined}
-use Rattle.linear_combos.proofs.Coefficients.{less_turned}
-use Rattle.linear_combos.proofs.Place.{same_key, greater_from}
+use Rattle.realisations.proofs.Coefficients.{less_turned}
+use Rattle.realisations.proofs.KeyOrders.{same_key}
+use Rattle.linear_combos.proofs.Place.{greater_from}
 use Rattle.linear_combos.proofs.Weights.{weighed-insert}
-use Rattle.linear_combos.proofs.LowestCombos.{push-insert, times_turned}
+use Rattle.linear_combos.proofs.LowestCombos.{push-insert}
+use Rattle.realisations.proofs.Agreement.{times_turned}
 
 -- a key that is greater than all stands in the last gap
 pub last_gap : (ts : Terms) (key : List (List ℕ)) → ((k : List (List ℕ)) → HasKey ts k → key_cmp k key ≡ Less) → IsGapFor ts key (length ts)

@@ -6,9 +6,10 @@ use Rattle.hopf_num.specs.Divisors.{IsLcm}
 use Rattle.hopf_num.specs.Fractions.{Ratio}
 use Rattle.hopf_num.proofs.Ring.{*ℤ_assoc}
 use Rattle.hopf_num.proofs.SumsOfRatios.{ratio-sum}
-use Rattle.linear_combos.specs.Combos.{Combination, weighed, IsSum, IsDifference, IsMultiple}
+use Rattle.realisations.specs.Combinations.{Combination, weighed}
+use Rattle.linear_combos.specs.Combos.{IsSum, IsDifference, IsMultiple}
 use Rattle.linear_combos.specs.Merges.{IsCombined, IsOver, IsSignedSum}
-use Rattle.linear_combos.proofs.LowestCombos.{times_turned}
+use Rattle.realisations.proofs.Agreement.{times_turned}
 
 -- over the least common multiple of the denominators
 pub IsSignedSum-combined : (a b c : Combination) (m : ℕ) (sign : ℤ) → 1 ≤ m → IsLcm a.den b.den m

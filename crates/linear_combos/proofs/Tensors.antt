@@ -11,10 +11,11 @@ use Rattle.std.proofs.lemmas.Int.{ints, unsigned_abs-mul}
 use Rattle.std.proofs.lemmas.List.{take_all}
 use Rattle.std.proofs.lemmas.List.Sums.{sum_by_more, sum_by-take-le}
 use Rattle.hopf_num.proofs.Ring.{*ℤ-+ℤ, *ℤ_assoc}
-use Rattle.linear_combos.specs.Readings.{Terms}
-use Rattle.linear_combos.specs.Combos.{Combination, key_cmp, term_at, norm_of, weighed, IsGapFor, AreTerms, AddsTerm, IsTensor}
+use Rattle.realisations.specs.Readings.{Terms}
+use Rattle.realisations.specs.Combinations.{Combination, key_cmp, term_at, norm_of, weighed, AreTerms, AddsTerm}
+use Rattle.linear_combos.specs.Combos.{IsGapFor, IsTensor}
 use Rattle.linear_combos.specs.Merges.{IsOver, IsPairBefore, AreProducts}
-use Rattle.linear_combos.proofs.Coefficients.{Codes}
+use Rattle.realisations.proofs.Coefficients.{Codes}
 use Rattle.linear_combos.proofs.Merging.{last_gap, weighed-more}
 
 -- the first comparison decides, or else the later one

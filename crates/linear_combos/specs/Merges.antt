@@ -3,8 +3,8 @@ use Rattle.std.specs.Prelude.{◌≡◌, ℕ, ◌+◌, ◌*◌, ◌^◌, ◌<◌
 use Rattle.std.specs.declared.cmp.Ordering.{Ordering}
 use Rattle.std.specs.declared.cmp.Ordering.TheVariants.{Less, Equal, Greater}
 use Rattle.std.specs.Int.{◌∣◌}
-use Rattle.linear_combos.specs.Readings.{Terms}
-use Rattle.linear_combos.specs.Combos.{Combination, key_cmp, term_at, norm_of, weighed, AreTerms, HasKey}
+use Rattle.realisations.specs.Readings.{Terms}
+use Rattle.realisations.specs.Combinations.{Combination, key_cmp, term_at, norm_of, weighed, AreTerms, HasKey}
 
 -- g is the greatest common divisor of the denominator and of all numerators
 pub record IsCommon (den : ℕ) (ts : Terms) (g : ℕ) : Type 0 where

@@ -4,7 +4,8 @@ ghost use Rattle.std.specs.List.{insert};
 ghost use Rattle.hopf_num.specs.Divisors.{IsLcm};
 ghost use Rattle.hopf_num.specs.Room.{IsNeed, product_rule, sum_rule};
 ghost use Rattle.hopf_num.specs.declared.room.Need.TheVariants.{Sum, CommonDenominator};
-ghost use Rattle.linear_combos.specs.Combos.{IsCanonical, IsGapFor, AddsTerm, IsSum, IsDifference, IsMultiple, IsTensor, AreTerms, norm_of, term_at, terms_of};
+ghost use Rattle.realisations.specs.Combinations.{IsCanonical, AddsTerm, AreTerms, norm_of, term_at, terms_of};
+ghost use Rattle.linear_combos.specs.Combos.{IsGapFor, IsSum, IsDifference, IsMultiple, IsTensor};
 ghost use Rattle.linear_combos.specs.Merges.{IsCombined, IsOver, IsSignedSum};
 ghost use Rattle.linear_combos.specs.Faults.{TestsRoom, IsTested};
 
@@ -41,7 +42,7 @@ pub struct Combo {
 
 impl Model for Combo {
     ghost use Rattle.std.specs.Prelude.{◌≡◌};
-    ghost use Rattle.linear_combos.specs.Combos.{Combination, IsCanonical, norm_of};
+    ghost use Rattle.realisations.specs.Combinations.{Combination, IsCanonical, norm_of};
 
     ghost Value = { Combination };
 

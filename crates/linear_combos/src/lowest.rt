@@ -1,6 +1,7 @@
 //! Terms over a denominator that may have a factor in common with them.
 ghost use Rattle.std.specs.Prelude.{◌≡◌, ◌≢◌, ◌+◌, ◌^◌, ◌<◌, ◌≤◌, pos, int_div, [], ◌∷◌, ◌++◌, length, slice_set, unsigned_abs, OnOk, OnErr};
-ghost use Rattle.linear_combos.specs.Combos.{AddsTerm, IsGapFor, norm_of, term_at};
+ghost use Rattle.realisations.specs.Combinations.{AddsTerm, norm_of, term_at};
+ghost use Rattle.linear_combos.specs.Combos.{IsGapFor};
 ghost use Rattle.linear_combos.specs.Merges.{IsCommon, quotients};
 
 use crate::Key;
@@ -20,7 +21,7 @@ pub(crate) struct Unreduced {
 }
 
 impl Model for Unreduced {
-    ghost use Rattle.linear_combos.specs.Combos.{Combination};
+    ghost use Rattle.realisations.specs.Combinations.{Combination};
     ghost use Rattle.linear_combos.specs.Merges.{IsUnreduced};
 
     ghost Value = { Combination };

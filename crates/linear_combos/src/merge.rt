@@ -1,6 +1,6 @@
 //! The sum of two lists of terms, each times a factor.
 ghost use Rattle.std.specs.Prelude.{◌≡◌, ◌+◌, ◌*◌, ◌^◌, ◌<◌, ◌≤◌, ◌+ℤ◌, ◌*ℤ◌, [], length, unsigned_abs, OnOk, IfOk};
-ghost use Rattle.linear_combos.specs.Combos.{AreTerms, HasRisingKeys, norm_of, term_at};
+ghost use Rattle.realisations.specs.Combinations.{AreTerms, HasRisingKeys, norm_of, term_at};
 ghost use Rattle.linear_combos.specs.Merges.{IsNext, IsMerged};
 
 use crate::Key;

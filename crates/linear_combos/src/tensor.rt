@@ -1,6 +1,6 @@
 //! The products of each term of one combination with each of another.
 ghost use Rattle.std.specs.Prelude.{◌≡◌, ◌+◌, ◌*ℤ◌, ◌^◌, ◌<◌, [], length, unsigned_abs, OnOk};
-ghost use Rattle.linear_combos.specs.Combos.{term_at};
+ghost use Rattle.realisations.specs.Combinations.{term_at};
 ghost use Rattle.linear_combos.specs.Merges.{AreFactors, AreProducts};
 
 use crate::Combo;

@@ -1,7 +1,8 @@
 //! Terms in rising order of keys: where a key is, or where it would go.
 ghost use Rattle.std.specs.Prelude.{◌≡◌, ◌^◌, ◌<◌, length, IfOk, IfErr};
 ghost use Rattle.std.specs.List.{remove};
-ghost use Rattle.linear_combos.specs.Combos.{HasRisingKeys, IsAt, IsGapFor, norm_of};
+ghost use Rattle.realisations.specs.Combinations.{HasRisingKeys, norm_of};
+ghost use Rattle.linear_combos.specs.Combos.{IsAt, IsGapFor};
 
 use crate::Key;
 use std::alloc::{AllocError, Global};

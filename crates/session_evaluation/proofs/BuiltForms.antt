@@ -1,25 +1,24 @@
 -- What a built expression has, by its form.
 use Rattle.std.proofs.Common.{◌≡◌, ℕ, ◌^◌, ◌<◌, List, ◌∷◌, refl, sym, ◌∙◌, ap, subst}
-use Rattle.basis_names.specs.declared.bases.BasisId.{BasisId as BasisName}
-use Rattle.hopf_laws.specs.declared.bases.BasisId.{BasisId}
+use Rattle.basis_names.specs.declared.bases.BasisId.{BasisId}
 use Rattle.session_tokens.specs.declared.lexeme.Lexeme.{Lexeme}
 use Rattle.session_grammar.specs.declared.expression.Place.{Place}
 use Rattle.session_evaluation.specs.Elements.{Spells, IsSpelled}
 use Rattle.session_tokens.specs.declared.lexeme.Linear.{Linear}
 use Rattle.session_grammar.specs.declared.expression.Expr.{Expr, out-Expr}
 use Rattle.session_grammar.specs.declared.expression.Expr.TheOpen.{Expr-F}
-use Rattle.session_grammar.specs.declared.expression.Expr.TheOpen as o
-use Rattle.session_grammar.specs.declared.expression.Expr.TheVariants as e
 use Rattle.session_grammar.specs.declared.expression.Expr.TheViews.{out-roll-Expr}
 use Rattle.session_grammar.specs.declared.expression.Factor.{Factor}
 use Rattle.session_grammar.specs.declared.expression.Signed.{Signed}
 use Rattle.session_evaluation.specs.Built.{IsBuilt, built_number, built_element, built_name, built_sum, built_tensor, built_product, AreBuilt}
 use Rattle.session_evaluation.specs.Evaluation.{steps_of_sum, steps_of_tensor, steps_of_product}
+use Rattle.session_grammar.specs.declared.expression.Expr.TheOpen as o
+use Rattle.session_grammar.specs.declared.expression.Expr.TheVariants as e
 
 -- The same as a built expression, of the forms that a pattern can see.
 pub data BuiltForm : Expr-F Expr Factor Signed → Type 0 where
   number_form : {n : ℕ} → n < 2 ^ 127 → BuiltForm (o.Number n)
-  element_form : {b : BasisName} {items : List Lexeme} {basis : BasisId} {code : List ℕ} → Spells b items basis code → BuiltForm (o.Element b items)
+  element_form : {basis : BasisId} {items : List Lexeme} {code : List ℕ} → Spells basis items code → BuiltForm (o.Element basis items)
   name_form : {name : List ℕ} → BuiltForm (o.Named name)
   sum_form : (part : Signed) (parts : List Signed) → IsBuilt part.value → AreBuilt (steps_of_sum parts) → BuiltForm (o.Sum (part ∷ parts))
   tensor_form : (part : Expr) (parts : List Expr) → IsBuilt part → AreBuilt (steps_of_tensor parts) → BuiltForm (o.Tensor (part ∷ parts))
@@ -30,7 +29,7 @@ out-number : (n : ℕ) → out-Expr (e.Number n) ≡ o.Number n
 out-number n = ap out-Expr (sym (e.rolls-Number n)) ∙ out-roll-Expr (o.Number n)
 
 -- A basis element shows its form.
-out-element : (b : BasisName) (items : List Lexeme) → out-Expr (e.Element b items) ≡ o.Element b items
+out-element : (b : BasisId) (items : List Lexeme) → out-Expr (e.Element b items) ≡ o.Element b items
 out-element b items = ap out-Expr (sym (e.rolls-Element b items)) ∙ out-roll-Expr (o.Element b items)
 
 -- A name shows its form.
@@ -38,7 +37,7 @@ out-name : (name : List ℕ) → out-Expr (e.Named name) ≡ o.Named name
 out-name name = ap out-Expr (sym (e.rolls-Named name)) ∙ out-roll-Expr (o.Named name)
 
 -- A conversion shows its form.
-out-convert : (b : BasisName) (x : Expr) (p : Place) → out-Expr (e.Convert b x p) ≡ o.Convert b x p
+out-convert : (b : BasisId) (x : Expr) (p : Place) → out-Expr (e.Convert b x p) ≡ o.Convert b x p
 out-convert b x p = ap out-Expr (sym (e.rolls-Convert b x p)) ∙ out-roll-Expr (o.Convert b x p)
 
 -- A linear function shows its form.
@@ -50,7 +49,7 @@ out-pair : (x y : Expr) → out-Expr (e.Pair x y) ≡ o.Pair x y
 out-pair x y = ap out-Expr (sym (e.rolls-Pair x y)) ∙ out-roll-Expr (o.Pair x y)
 
 -- A conversion along bases shows its form.
-out-along : (x : Expr) (k : ℕ) (bs : List BasisName) → out-Expr (e.Along x k bs) ≡ o.Along x k bs
+out-along : (x : Expr) (k : ℕ) (bs : List BasisId) → out-Expr (e.Along x k bs) ≡ o.Along x k bs
 out-along x k bs = ap out-Expr (sym (e.rolls-Along x k bs)) ∙ out-roll-Expr (o.Along x k bs)
 
 -- A sum shows its form.
@@ -68,7 +67,7 @@ out-product parts = ap out-Expr (sym (e.rolls-Product parts)) ∙ out-roll-Expr 
 -- A built expression has a built form.
 pub built_form : (x : Expr) → IsBuilt x → BuiltForm (out-Expr x)
 built_form x (built_number {n = n} small) = subst BuiltForm (sym (out-number n)) (number_form small)
-built_form x (built_element {b = b} {items = items} spells) = subst BuiltForm (sym (out-element b items)) (element_form spells)
+built_form x (built_element {basis = basis} {items = items} spells) = subst BuiltForm (sym (out-element basis items)) (element_form spells)
 built_form x (built_name {name = name}) = subst BuiltForm (sym (out-name name)) name_form
 built_form x (built_sum part parts first rest) = subst BuiltForm (sym (out-sum (part ∷ parts))) (sum_form part parts first rest)
 built_form x (built_tensor part parts first rest) = subst BuiltForm (sym (out-tensor (part ∷ parts))) (tensor_form part parts first rest)
@@ -86,11 +85,11 @@ built_number-inv n built = below (form_at (e.Number n) (o.Number n) (out-number 
     below (number_form small) = small
 
 -- The list of a built element spells an index.
-pub built_element-inv : (b : BasisName) (items : List Lexeme) → IsBuilt (e.Element b items) → IsSpelled b items
-built_element-inv b items built = spelled (form_at (e.Element b items) (o.Element b items) (out-element b items) built)
+pub built_element-inv : (basis : BasisId) (items : List Lexeme) → IsBuilt (e.Element basis items) → IsSpelled basis items
+built_element-inv basis items built = spelled (form_at (e.Element basis items) (o.Element basis items) (out-element basis items) built)
   where
-    spelled : {b : BasisName} {items : List Lexeme} → BuiltForm (o.Element b items) → IsSpelled b items
-    spelled (element_form {basis = basis} {code = code} spells) = (basis, code, spells)
+    spelled : {basis : BasisId} {items : List Lexeme} → BuiltForm (o.Element basis items) → IsSpelled basis items
+    spelled (element_form {code = code} spells) = (code, spells)
 
 -- A built sum has a built first part and built later parts.
 pub built_sum-inv : (parts : List Signed) → IsBuilt (e.Sum parts)
@@ -141,7 +140,7 @@ built_product-parts part parts built = taken (form_at (e.Product (part ∷ parts
     taken (product_form part parts one more) = (one, more)
 
 -- No conversion is built.
-pub not_convert : (b : BasisName) (x : Expr) (p : Place) → IsBuilt (e.Convert b x p) → ⊥
+pub not_convert : (b : BasisId) (x : Expr) (p : Place) → IsBuilt (e.Convert b x p) → ⊥
 not_convert b x p built = elim (form_at (e.Convert b x p) (o.Convert b x p) (out-convert b x p) built) [ ]
 
 -- No linear function is built.
@@ -153,5 +152,5 @@ pub not_pair : (x y : Expr) → IsBuilt (e.Pair x y) → ⊥
 not_pair x y built = elim (form_at (e.Pair x y) (o.Pair x y) (out-pair x y) built) [ ]
 
 -- No conversion along a list of bases is built.
-pub not_along : (x : Expr) (k : ℕ) (bs : List BasisName) → IsBuilt (e.Along x k bs) → ⊥
+pub not_along : (x : Expr) (k : ℕ) (bs : List BasisId) → IsBuilt (e.Along x k bs) → ⊥
 not_along x k bs built = elim (form_at (e.Along x k bs) (o.Along x k bs) (out-along x k bs) built) [ ]

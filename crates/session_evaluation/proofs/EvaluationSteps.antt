@@ -1,21 +1,21 @@
 -- How the calls of an evaluation follow the cases of its definition.
 use Rattle.std.proofs.Common.{◌≡◌, ◌⊎◌, ℕ, ◌+◌, ◌<◌, inl, inr, Bool, true, false, if◌then◌else◌, List, [], ◌∷◌, length, drop, slice_index_or, Option, Some, None, option_copied, Ok, Err, Bor, refl, sym, ◌∙◌, ap, subst, add-one, drop-cons}
-use Rattle.basis_names.specs.declared.bases.BasisId.{BasisId as BasisName}
+use Rattle.basis_names.specs.declared.bases.BasisId.{BasisId}
 use Rattle.session_tokens.specs.declared.lexeme.Lexeme.{Lexeme}
 use Rattle.hopf_laws.specs.Values.{Expansion}
-use Rattle.basis_routes.specs.declared.refusal.Refusal.TheVariants as value
 use Rattle.session_grammar.specs.declared.expression.Expr.{Expr}
-use Rattle.session_grammar.specs.declared.expression.Expr.TheVariants as e
 use Rattle.session_grammar.specs.declared.expression.Factor.{Factor}
 use Rattle.session_grammar.specs.declared.expression.Signed.{Signed}
 use Rattle.session_evaluation.specs.declared.operator.Operator.{Operator}
 use Rattle.session_evaluation.specs.declared.operator.Operator.TheVariants.{Plus, Minus, Hash, Times, Over}
 use Rattle.session_evaluation.specs.declared.refusal.EvaluationRefusal.{EvaluationRefusal}
-use Rattle.session_evaluation.specs.declared.refusal.EvaluationRefusal.TheVariants as refusal
 use Rattle.session_evaluation.specs.Names.{Names, value_of}
 use Rattle.session_evaluation.specs.Built.{IsBuilt, AreBuilt, built_step}
 use Rattle.session_evaluation.specs.Evaluation.{Answer, Steps, steps_of_sum, steps_of_tensor, steps_of_product, OrMemory, number_value, IsElement, Applies, Signs, Evaluates, number, element, known, unknown, sum, tensor_product, product, Folds, done, refused, step, Begins, TakesStep}
 use Rattle.session_evaluation.proofs.BuiltForms.{built_sum-inv, built_tensor-inv, built_product-inv}
+use Rattle.basis_routes.specs.declared.refusal.Refusal.TheVariants as value
+use Rattle.session_grammar.specs.declared.expression.Expr.TheVariants as e
+use Rattle.session_evaluation.specs.declared.refusal.EvaluationRefusal.TheVariants as refusal
 
 -- the value of a name was found
 pub found : (names : Names) (name looked : List ℕ) (r : Option (Bor Expansion)) (b : Bor Expansion) (v : Expansion) → option_copied r ≡ value_of names looked → looked ≡ name → r ≡ Some b → v ≡ b.now
@@ -38,9 +38,9 @@ pub number_evaluates : (names : Names) (n : ℕ) (answer : Answer) → OrMemory 
 number_evaluates names n answer (inl memory) = inl memory
 number_evaluates names n answer (inr is) = inr (subst (λ (a : Answer). Evaluates names (e.Number n) a) (sym is) number)
 
-pub element_evaluates : (names : Names) (b : BasisName) (items : List Lexeme) (answer : Answer) → OrMemory (IsElement b items) answer → OrMemory (Evaluates names (e.Element b items)) answer
-element_evaluates names b items answer (inl memory) = inl memory
-element_evaluates names b items answer (inr (basis, code, spells, is)) = inr (subst (λ (a : Answer). Evaluates names (e.Element b items) a) (sym is) (element spells))
+pub element_evaluates : (names : Names) (basis : BasisId) (items : List Lexeme) (answer : Answer) → OrMemory (IsElement basis items) answer → OrMemory (Evaluates names (e.Element basis items)) answer
+element_evaluates names basis items answer (inl memory) = inl memory
+element_evaluates names basis items answer (inr (code, spells, is)) = inr (subst (λ (a : Answer). Evaluates names (e.Element basis items) a) (sym is) (element spells))
 
 -- an operand was evaluated, and then the operation applied
 pub takes_step : (names : Names) (o : Operator) (a : Expansion) (x : Expr) (operand next : Answer) → Evaluates names x operand → OrMemory (Applies o a operand) next → OrMemory (TakesStep names o a x) next

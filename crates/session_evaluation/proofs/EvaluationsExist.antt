@@ -6,12 +6,12 @@ use Rattle.std.proofs.lemmas.List.Elements.{All-nil, All-cons, All-append}
 use Rattle.hopf_num.specs.Divisors.{IsLcm}
 use Rattle.hopf_num.specs.declared.room.Need.TheVariants.{Denominator, Product}
 use Rattle.hopf_num.proofs.CommonDivisors.{gcd-exists, IsLcm-quotient}
-use Rattle.linear_combos.specs.Combos.{IsCanonical, HasKey, term_at, norm_of}
-use Rattle.linear_combos.specs.Indices.{AreIndices, total_degree}
+use Rattle.realisations.specs.Combinations.{IsCanonical, HasKey, term_at, norm_of}
+use Rattle.realisations.specs.Indices.{AreIndices, total_degree}
 use Rattle.linear_combos.proofs.Edits.{lowest_one, zero_canonical}
-use Rattle.linear_combos.specs.Readings.{Terms}
-use Rattle.hopf_laws.specs.declared.bases.BasisId.{BasisId}
-use Rattle.hopf_laws.specs.Bases.{rows_of, least_limit}
+use Rattle.realisations.specs.Readings.{Terms}
+use Rattle.basis_names.specs.declared.bases.BasisId.{BasisId}
+use Rattle.hopf_laws.specs.Bases.{least_limit}
 use Rattle.hopf_laws.specs.Values.{Expansion, IsValue, Expands, ratio_of, degree_of_value}
 use Rattle.basis_routes.specs.declared.checks.Check.{Check}
 use Rattle.basis_routes.specs.declared.checks.Check.TheVariants.{RankWithin, Scalar, Nonzero, DegreeWithin, Room}
@@ -25,16 +25,16 @@ use Rattle.hopf_ops.proofs.ProductsExist.{any_product_exists}
 use Rattle.hopf_ops.proofs.SumsExist.{sum_exists, common_checks_are, sum_checks_are}
 use Rattle.hopf_ops.proofs.TensorsExist.{tensor_exists}
 use Rattle.session_grammar.specs.declared.expression.Expr.{Expr}
-use Rattle.session_grammar.specs.declared.expression.Expr.TheVariants as e
 use Rattle.session_evaluation.specs.declared.operator.Operator.{Operator}
 use Rattle.session_evaluation.specs.declared.operator.Operator.TheVariants.{Plus, Minus, Hash, Times, Over}
-use Rattle.session_evaluation.specs.declared.refusal.EvaluationRefusal.TheVariants as refusal
 use Rattle.session_evaluation.specs.Built.{IsBuilt, built_number, built_element, built_name, built_sum, built_tensor, built_product, AreBuilt, no_steps, built_step}
 use Rattle.session_evaluation.specs.Evaluation.{Answer, number_value, element_value, checks_of, result_bases, result_of, Operates, answers, fails, Applies, Signs, Steps, Evaluates, number, element, known, unknown, sum, tensor_product, product, Folds, done, refused, step}
 use Rattle.session_evaluation.specs.Names.{Names, value_of, AreValues}
 use Rattle.session_evaluation.proofs.BuiltForms.{built_number-inv, built_sum-parts, built_tensor-parts, built_product-parts}
 use Rattle.session_evaluation.proofs.KnownNames.{known_value}
 use Rattle.session_evaluation.proofs.SpelledElements.{spelled_within}
+use Rattle.session_grammar.specs.declared.expression.Expr.TheVariants as e
+use Rattle.session_evaluation.specs.declared.refusal.EvaluationRefusal.TheVariants as refusal
 
 -- The terms that are one term.
 abbrev one_term : ℤ → List (List ℕ) → Terms
@@ -69,6 +69,7 @@ only_key P num key holds k (suc i, in_range, is) = absurd (omega (arith, in_rang
 pub number_is_value : (n : ℕ) → n < 2 ^ 127 → IsValue (number_value n)
 number_is_value zero small = record {
   short = omega arith;
+  built = tt;
   rank = refl;
   canonical = zero_canonical 0;
   indices = λ key has. absurd (omega (arith, has.1));
@@ -76,6 +77,7 @@ number_is_value zero small = record {
 }
 number_is_value (suc n) small = record {
   short = omega arith;
+  built = tt;
   rank = refl;
   canonical = term_canonical 0 (pos (suc n)) [] (λ is. absurd (omega (arith, ints, is))) refl (omega (arith, small));
   indices = only_key (λ key. AreIndices [] key) (pos (suc n)) [] tt;
@@ -86,10 +88,11 @@ number_is_value (suc n) small = record {
 pub element_is_value : (basis : BasisId) (code : List ℕ) → IsIndexWithin basis code → IsValue (element_value basis code)
 element_is_value basis code within = record {
   short = omega arith;
+  built = (within.built, tt);
   rank = refl;
   canonical = term_canonical 1 (pos 1) (code ∷ []) (λ is. absurd (omega (arith, ints, is))) refl (omega arith);
-  indices = only_key (λ key. AreIndices (rows_of (basis ∷ [])) key) (pos 1) (code ∷ []) (within.0, tt);
-  degrees = only_key (λ key. total_degree (rows_of (basis ∷ [])) key ≤ least_limit (basis ∷ [])) (pos 1) (code ∷ []) (omega (arith, within.1));
+  indices = only_key (λ key. AreIndices ((basis ∷ [])) key) (pos 1) (code ∷ []) (within.index, tt);
+  degrees = only_key (λ key. total_degree ((basis ∷ [])) key ≤ least_limit (basis ∷ [])) (pos 1) (code ∷ []) (omega (arith, within.degree));
 }
 
 -- A rule of room of a product can be checked, where the norm grows by up to 2^120.
@@ -200,7 +203,7 @@ module _ (names : Names) (values : AreValues names) where
   mutual
     evaluated_good : (x : Expr) (r : Answer) → IsBuilt x → Evaluates names x r → IsGood r
     evaluated_good x r built (number {n = n}) = number_is_value n (built_number-inv n built)
-    evaluated_good x r built (element {b = b} {items = items} {basis = basis} {code = code} spells) = element_is_value basis code (spelled_within b items basis code spells)
+    evaluated_good x r built (element {basis = basis} {items = items} {code = code} spells) = element_is_value basis code (spelled_within basis items code spells)
     evaluated_good x r built (known {name = name} {v = v} is) = known_value names name v values is
     evaluated_good x r built (unknown is) = tt
     evaluated_good x r built (sum part parts {first = first} {signed = signed} one sign folds) =

@@ -1,27 +1,29 @@
 -- The value of an expression reads as the expression means.
 use Rattle.std.proofs.Common.{◌≡◌, ◌≢◌, ℕ, zero, suc, ◌+◌, ◌*◌, ◌≤◌, Bool, true, false, ◌||◌, Ok, Err, List, [], ◌∷◌, ◌++◌, map, length, take, drop, refl, sym, ◌∙◌, ap, subst, arith, unsigned_abs}
-use Rattle.std.specs.Prelude.{if◌then◌else◌, nat_eq}
+use Rattle.std.specs.Prelude.{if◌then◌else◌, nat_eq, max}
 use Rattle.std.specs.List.{All}
 use Rattle.std.proofs.Math.IntN.{ℤ, pos, negsuc, ◌*ℤ◌}
 use Rattle.std.proofs.Math.Nat.{mul-pos}
 use Rattle.std.proofs.lemmas.Int.{ints}
+use Rattle.std.proofs.lemmas.List.Elements.{All-tail}
 use Rattle.std.proofs.lemmas.List.{length-map, length-append, length-take, length-drop, map-append}
 use Rattle.hopf_num.specs.Fractions.{Ratio, reciprocal}
 use Rattle.hopf_num.proofs.Reciprocals.{reciprocal_agrees, ratio_nonzero}
-use Rattle.linear_combos.specs.Rows.{Kind, kind_of}
-use Rattle.linear_combos.specs.Readings.{Reading, element, product, tensor, sum_of, multiple, kinds_of, denominator, AgreeAt}
-use Rattle.linear_combos.proofs.Agreement.{agree_trans, sum_agrees, multiple_agrees, tensor_agrees, product_agrees}
-use Rattle.hopf_laws.specs.declared.bases.BasisId.{BasisId}
-use Rattle.hopf_laws.specs.Bases.{row_of, rows_of}
-use Rattle.hopf_laws.specs.Values.{Expansion, Expands, reading_of, ratio_of}
-use Rattle.hopf_laws.proofs.Uniqueness.{length-rows}
-use Rattle.basis_routes.specs.declared.checks.Check.TheVariants.{SameRank, Scalar}
+use Rattle.realisations.specs.Points.{Kind}
+use Rattle.realisations.specs.Bases.{kind_of}
+use Rattle.realisations.specs.Readings.{Reading, element, product, tensor, sum_of, multiple, kinds_of, denominator, AgreeAt}
+use Rattle.realisations.proofs.Agreement.{agree_trans, sum_agrees, multiple_agrees, tensor_agrees, product_agrees}
+use Rattle.basis_names.specs.declared.bases.BasisId.{BasisId}
+use Rattle.hopf_laws.specs.Bases.{least_limit}
+use Rattle.hopf_laws.specs.Values.{Expansion, Expands, reading_of, ratio_of, degree_of_value}
+use Rattle.basis_routes.specs.declared.checks.Check.TheVariants.{SameRank, Scalar, DegreeWithin}
 use Rattle.basis_routes.specs.Checks.{Passes}
-use Rattle.basis_routes.specs.Joins.{joined}
-use Rattle.hopf_ops.specs.Operations.{negation_of, quotient_of, has_scalar, product_room, component_checks}
-use Rattle.hopf_ops.proofs.SumsOfValues.{same_bases, joined-same}
+use Rattle.basis_routes.specs.Joins.{joined, join_checks}
+use Rattle.basis_routes.proofs.JoinedKinds.{joined_kinds}
+use Rattle.basis_routes.proofs.Rows.{passes_earlier}
+use Rattle.hopf_ops.specs.Operations.{negation_of, quotient_of, has_scalar, product_room, common_checks, component_checks}
+use Rattle.hopf_ops.proofs.SumsOfValues.{same_rank}
 use Rattle.session_grammar.specs.declared.expression.Expr.{Expr}
-use Rattle.session_grammar.specs.declared.expression.Expr.TheVariants as e
 use Rattle.session_grammar.specs.declared.expression.Factor.{Factor}
 use Rattle.session_grammar.specs.declared.expression.Signed.{Signed}
 use Rattle.session_evaluation.specs.declared.operator.Operator.{Operator}
@@ -31,6 +33,7 @@ use Rattle.session_evaluation.specs.Names.{Names, AreValues}
 use Rattle.session_evaluation.specs.Evaluation.{Answer, number_value, Operates, answers, Applies, Signs, Steps, steps_of_sum, steps_of_tensor, steps_of_product, Evaluates, number as evaluated_number, element as evaluated_element, known, unknown, sum, tensor_product, product as evaluated_product, Folds, done, refused, step}
 use Rattle.session_evaluation.specs.Meaning.{number, negative, ratio, is_scalar, combined, signed, Means, number_means, element_means, name_means, sum_means, tensor_means, product_means, Combine, combined_all, combine, IsMeant}
 use Rattle.session_evaluation.proofs.KnownNames.{known_value}
+use Rattle.session_grammar.specs.declared.expression.Expr.TheVariants as e
 
 -- readings with the same kinds and positive denominators that agree at all tuples with a point for each component
 pub record Alike (q r : Reading) : Type 0 where
@@ -110,15 +113,15 @@ products_alike a a' b b' kinds first second = record {
 
 -- the kinds of a list of bases
 abbrev kinds_over : List BasisId → List Kind
-kinds_over bases = map kind_of (rows_of bases)
+kinds_over bases = map kind_of bases
 
 -- there is one kind for each basis
 length-kinds : (bases : List BasisId) → length (kinds_over bases) ≡ length bases
-length-kinds bases = length-map (rows_of bases) kind_of ∙ length-rows bases
+length-kinds bases = length-map bases kind_of
 
 -- the kinds of a list of bases and another
 kinds-append : (lefts rights : List BasisId) → kinds_over (lefts ++ rights) ≡ kinds_over lefts ++ kinds_over rights
-kinds-append lefts rights = ap (λ rows. map kind_of rows) (map-append (λ basis. row_of basis) lefts rights) ∙ map-append kind_of (rows_of lefts) (rows_of rights)
+kinds-append lefts rights = map-append kind_of lefts rights
 
 -- the value over bases that reads as a reading of their kinds is like it
 expands_alike : (bases : List BasisId) (q : Reading) (v : Expansion) → kinds_of q ≡ kinds_over bases → 1 ≤ denominator q → Expands bases q v → Alike (reading_of v) q
@@ -137,27 +140,30 @@ length-alike v r alike = sym (length-kinds v.bases) ∙ ap (λ (ks : List Kind).
 answer_alike : (bases : List BasisId) (q r : Reading) (v : Expansion) → kinds_of q ≡ kinds_over bases → Alike q r → Expands bases q v → Alike (reading_of v) r
 answer_alike bases q r v kinds alike expands = alike_trans (reading_of v) q r (expands_alike bases q v kinds alike.left expands) alike
 
--- values of one rank have the same kinds
-same_kinds : (a b : Expansion) → length a.bases ≡ length b.bases → kinds_over a.bases ≡ kinds_over b.bases
-same_kinds a b long = ap kinds_over (same_bases a.bases b.bases long)
-
--- and so have their joined bases
-joined_kinds : (a b : Expansion) → length a.bases ≡ length b.bases → kinds_over a.bases ≡ kinds_over (joined a.bases b.bases)
-joined_kinds a b long = ap kinds_over (sym (joined-same a.bases b.bases long))
+-- values that pass their common checks have the same kinds, and so have their joined bases
+common_kinds : (degree : ℕ) (a b : Expansion) → All Passes (common_checks degree a b)
+    → (kinds_over a.bases ≡ kinds_over b.bases) × (kinds_over a.bases ≡ kinds_over (joined a.bases b.bases))
+common_kinds degree a b pass =
+    let within = DegreeWithin degree (least_limit (joined a.bases b.bases)) in
+    let joins = passes_earlier (join_checks a.bases b.bases) (within ∷ []) (All-tail Passes (SameRank (length a.bases) (length b.bases)) (join_checks a.bases b.bases ++ within ∷ []) pass) in
+    let kinds = joined_kinds a.bases b.bases (same_rank degree a b pass) joins in
+    (kinds.0, sym kinds.1)
 
 -- a sum of values is like the sum that it means
-plus_alike : (a b v : Expansion) (ra rb : Reading) → Alike (reading_of a) ra → Alike (reading_of b) rb → length a.bases ≡ length b.bases
+plus_alike : (a b v : Expansion) (ra rb : Reading) → Alike (reading_of a) ra → Alike (reading_of b) rb → (degree : ℕ) → All Passes (common_checks degree a b)
     → Expands (joined a.bases b.bases) (sum_of (reading_of a) (reading_of b)) v → Alike (reading_of v) (sum_of ra rb)
-plus_alike a b v ra rb first second long expands =
-    answer_alike (joined a.bases b.bases) (sum_of (reading_of a) (reading_of b)) (sum_of ra rb) v (joined_kinds a b long)
-    (sums_alike (reading_of a) ra (reading_of b) rb (same_kinds a b long) first second) expands
+plus_alike a b v ra rb first second degree pass expands =
+    let kinds = common_kinds degree a b pass in
+    answer_alike (joined a.bases b.bases) (sum_of (reading_of a) (reading_of b)) (sum_of ra rb) v kinds.1
+    (sums_alike (reading_of a) ra (reading_of b) rb kinds.0 first second) expands
 
 -- and a difference
-minus_alike : (a b v : Expansion) (ra rb : Reading) → Alike (reading_of a) ra → Alike (reading_of b) rb → length a.bases ≡ length b.bases
+minus_alike : (a b v : Expansion) (ra rb : Reading) → Alike (reading_of a) ra → Alike (reading_of b) rb → (degree : ℕ) → All Passes (common_checks degree a b)
     → Expands (joined a.bases b.bases) (sum_of (reading_of a) (negation_of b)) v → Alike (reading_of v) (sum_of ra (negative rb))
-minus_alike a b v ra rb first second long expands =
-    answer_alike (joined a.bases b.bases) (sum_of (reading_of a) (negation_of b)) (sum_of ra (negative rb)) v (joined_kinds a b long)
-    (sums_alike (reading_of a) ra (negation_of b) (negative rb) (same_kinds a b long) first (negatives_alike (reading_of b) rb second)) expands
+minus_alike a b v ra rb first second degree pass expands =
+    let kinds = common_kinds degree a b pass in
+    answer_alike (joined a.bases b.bases) (sum_of (reading_of a) (negation_of b)) (sum_of ra (negative rb)) v kinds.1
+    (sums_alike (reading_of a) ra (negation_of b) (negative rb) kinds.0 first (negatives_alike (reading_of b) rb second)) expands
 
 -- and a tensor product
 hash_alike : (a b v : Expansion) (ra rb : Reading) → Alike (reading_of a) ra → Alike (reading_of b) rb
@@ -173,9 +179,10 @@ product_alike : (scalar : Bool) (a b v : Expansion) (ra rb : Reading) → Alike 
     → Alike (reading_of v) (if scalar then tensor ra rb else product ra rb)
 product_alike true a b v ra rb first second pass expands = hash_alike a b v ra rb first second expands
 product_alike false a b v ra rb first second pass expands =
-    let long : length a.bases ≡ length b.bases = pass 0 (SameRank 0 0) (omega arith) in
-    answer_alike (joined a.bases b.bases) (product (reading_of a) (reading_of b)) (product ra rb) v (joined_kinds a b long)
-    (products_alike (reading_of a) ra (reading_of b) rb (same_kinds a b long) first second) expands
+    let degree = degree_of_value a + degree_of_value b in
+    let kinds = common_kinds degree a b (passes_earlier (common_checks degree a b) (product_room (5 * degree) a b) pass) in
+    answer_alike (joined a.bases b.bases) (product (reading_of a) (reading_of b)) (product ra rb) v kinds.1
+    (products_alike (reading_of a) ra (reading_of b) rb kinds.0 first second) expands
 
 -- one of two values is a scalar where one of their readings is
 same_scalars : (a b : Expansion) (ra rb : Reading) → Alike (reading_of a) ra → Alike (reading_of b) rb → has_scalar a b ≡ (is_scalar ra || is_scalar rb)
@@ -202,8 +209,10 @@ over_alike a b v ra rb first second none some expands =
 -- what an operation answers is like what the operation means
 operation_alike : (o : Operator) (a b v : Expansion) (ra rb : Reading) → Alike (reading_of a) ra → Alike (reading_of b) rb → Operates o a b (Ok v)
     → Alike (reading_of v) (combined o ra rb)
-operation_alike Plus a b v ra rb first second (answers lcm pass expands) = plus_alike a b v ra rb first second (pass 0 (SameRank 0 0) (omega arith)) expands
-operation_alike Minus a b v ra rb first second (answers lcm pass expands) = minus_alike a b v ra rb first second (pass 0 (SameRank 0 0) (omega arith)) expands
+operation_alike Plus a b v ra rb first second (answers lcm pass expands) =
+    plus_alike a b v ra rb first second (max (degree_of_value a) (degree_of_value b)) (passes_earlier (common_checks (max (degree_of_value a) (degree_of_value b)) a b) _ pass) expands
+operation_alike Minus a b v ra rb first second (answers lcm pass expands) =
+    minus_alike a b v ra rb first second (max (degree_of_value a) (degree_of_value b)) (passes_earlier (common_checks (max (degree_of_value a) (degree_of_value b)) a b) _ pass) expands
 operation_alike Hash a b v ra rb first second (answers lcm pass expands) = hash_alike a b v ra rb first second expands
 operation_alike Times a b v ra rb first second operates = times_alike a b v ra rb first second operates
 operation_alike Over a b v ra rb first second (answers lcm pass expands) =
@@ -288,7 +297,7 @@ product_meant names part parts (Ok a) (Ok v) meant fold =
 mutual
   pub answer_meant : {names : Names} {x : Expr} {answer : Answer} → AreValues names → Evaluates names x answer → AnswerMeant names x answer
   answer_meant values (evaluated_number {n = n}) = (number n, number_means, number_alike n)
-  answer_meant values (evaluated_element {basis = basis} {code = code} spells) = (element (row_of basis) code, element_means spells, alike_refl (element (row_of basis) code) (omega arith))
+  answer_meant values (evaluated_element {basis = basis} {code = code} spells) = (element basis code, element_means spells, alike_refl (element basis code) (omega arith))
   answer_meant {names = names} values (known {name = name} {v = v} is) =
       (reading_of v, name_means is, alike_refl (reading_of v) (known_value names name v values is).canonical.lowest.positive)
   answer_meant values (unknown is) = tt

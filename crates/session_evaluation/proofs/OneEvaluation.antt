@@ -2,21 +2,17 @@
 use Rattle.std.proofs.Common.{◌≡◌, ◌≢◌, ℕ, zero, suc, ◌≤◌, inl, inr, ℤ, pos, negsuc, unsigned_abs, Bool, true, false, if◌then◌else◌, Some, None, Ok, Err, List, [], ◌∷◌, All, length, refl, sym, ◌∙◌, ap, subst, arith}
 use Rattle.std.proofs.Math.Nat.{mul-pos}
 use Rattle.hopf_num.proofs.RoomOfSums.{same_lcm}
-use Rattle.linear_combos.specs.ClassBases.{IsClassBasis, AreClassBases}
-use Rattle.linear_combos.specs.Combos.{HasKey}
-use Rattle.linear_combos.specs.Indices.{AreIndices}
-use Rattle.linear_combos.specs.Readings.{Reading, AgreeAt, leaf, denominator, product, tensor}
-use Rattle.linear_combos.proofs.ClassBases.{monomial_class}
-use Rattle.linear_combos.proofs.Uniqueness.{unique_reading}
-use Rattle.basis_names.specs.declared.bases.BasisId.{BasisId as BasisName}
-use Rattle.hopf_laws.specs.declared.bases.BasisId.{BasisId}
+use Rattle.realisations.specs.Combinations.{HasKey}
+use Rattle.realisations.specs.Indices.{AreIndices}
+use Rattle.realisations.specs.Readings.{Reading, AgreeAt, leaf, denominator, product, tensor}
+use Rattle.realisations.proofs.Uniqueness.{unique_reading}
+use Rattle.basis_names.specs.declared.bases.BasisId.{BasisId}
 use Rattle.session_tokens.specs.declared.lexeme.Lexeme.{Lexeme}
 use Rattle.session_evaluation.specs.Elements.{Spells}
 use Rattle.session_evaluation.proofs.SpelledElements.{spells_once}
-use Rattle.hopf_laws.specs.declared.bases.BasisId.TheVariants.{QsymM}
-use Rattle.hopf_laws.specs.Bases.{row_of, rows_of}
+use Rattle.hopf_laws.specs.Bases.{AreBuilt as HaveBuilt}
+use Rattle.hopf_laws.proofs.Uniqueness.{classes_of}
 use Rattle.hopf_laws.specs.Values.{Expansion, Expands, reading_of, ratio_of}
-use Rattle.hopf_laws.proofs.Uniqueness.{length-rows}
 use Rattle.basis_routes.specs.declared.checks.Check.{Check}
 use Rattle.basis_routes.specs.declared.checks.Check.TheVariants.{Nonzero}
 use Rattle.basis_routes.specs.declared.refusal.Refusal.{Refusal}
@@ -24,18 +20,18 @@ use Rattle.basis_routes.specs.Checks.{Passes, IsFirstFailing}
 use Rattle.hopf_ops.specs.Operations.{negation_of, has_scalar}
 use Rattle.session_grammar.specs.declared.expression.Expr.{Expr, out-Expr}
 use Rattle.session_grammar.specs.declared.expression.Expr.TheOpen.{Expr-F}
-use Rattle.session_grammar.specs.declared.expression.Expr.TheOpen as form
-use Rattle.session_grammar.specs.declared.expression.Expr.TheVariants as e
 use Rattle.session_grammar.specs.declared.expression.Expr.TheViews.{out-roll-Expr}
 use Rattle.session_grammar.specs.declared.expression.Factor.{Factor}
 use Rattle.session_grammar.specs.declared.expression.Signed.{Signed}
 use Rattle.session_evaluation.specs.declared.operator.Operator.{Operator}
 use Rattle.session_evaluation.specs.declared.operator.Operator.TheVariants.{Plus, Minus, Hash, Times, Over}
 use Rattle.session_evaluation.specs.declared.refusal.EvaluationRefusal.{EvaluationRefusal}
-use Rattle.session_evaluation.specs.declared.refusal.EvaluationRefusal.TheVariants as refusal
 use Rattle.session_evaluation.specs.Names.{Names, value_of, AreValues}
 use Rattle.session_evaluation.specs.Evaluation.{Answer, number_value, element_value, checks_of, result_bases, result_of, Operates, answers, fails, Applies, Signs, Steps, steps_of_sum, steps_of_tensor, steps_of_product, Evaluates, number, element, known, unknown, sum, tensor_product, product as product_answer, Folds, done, refused, step}
 use Rattle.session_evaluation.proofs.KnownNames.{known_value}
+use Rattle.session_grammar.specs.declared.expression.Expr.TheOpen as form
+use Rattle.session_grammar.specs.declared.expression.Expr.TheVariants as e
+use Rattle.session_evaluation.specs.declared.refusal.EvaluationRefusal.TheVariants as refusal
 
 -- The first check that fails is one.
 pub failing_once : (checks : List Check) (r q : Refusal) → IsFirstFailing checks r → IsFirstFailing checks q → r ≡ q
@@ -51,26 +47,17 @@ none_fails [] r all h = h
 none_fails (check ∷ checks) r all (inl (is, failed)) = failed (all 0 check (omega arith))
 none_fails (check ∷ checks) r all (inr (passes, later)) = none_fails checks r (λ k d within. all (suc k) d (omega (arith, within))) later
 
--- Each basis is a class basis.
-class_of : (basis : BasisId) → IsClassBasis (row_of basis)
-class_of QsymM = monomial_class
-
--- So are those of a list.
-classes_of : (bases : List BasisId) → AreClassBases (rows_of bases)
-classes_of [] = tt
-classes_of (basis ∷ bases) = (class_of basis, classes_of bases)
-
 -- Values over the same bases that read alike are equal.
 pub expands_once : (bases : List BasisId) (r : Reading) (v w : Expansion) → 1 ≤ denominator r → Expands bases r v → Expands bases r w → v ≡ w
 expands_once bases r v w positive h k =
     let over : v.bases ≡ w.bases = h.over ∙ sym k.over in
     let same : v.combination ≡ w.combination =
-    unique_reading (rows_of bases) r v.combination w.combination (classes_of bases) h.value.canonical k.value.canonical
-    (h.value.rank ∙ ap length h.over ∙ sym (length-rows bases)) (k.value.rank ∙ ap length k.over ∙ sym (length-rows bases)) positive
-    (subst (λ bs. (key : List (List ℕ)) → HasKey v.combination.terms key → AreIndices (rows_of bs) key) h.over h.value.indices)
-    (subst (λ bs. (key : List (List ℕ)) → HasKey w.combination.terms key → AreIndices (rows_of bs) key) k.over k.value.indices)
-    (λ ps long. subst (λ bs. AgreeAt (leaf (rows_of bs) v.combination.den v.combination.terms) r ps) h.over (h.reads ps (long ∙ length-rows bases)))
-    (λ ps long. subst (λ bs. AgreeAt (leaf (rows_of bs) w.combination.den w.combination.terms) r ps) k.over (k.reads ps (long ∙ length-rows bases))) in
+    unique_reading bases r v.combination w.combination (classes_of bases (subst (λ bs. HaveBuilt bs) h.over h.value.built)) h.value.canonical k.value.canonical
+    (h.value.rank ∙ ap length h.over) (k.value.rank ∙ ap length k.over) positive
+    (subst (λ bs. (key : List (List ℕ)) → HasKey v.combination.terms key → AreIndices bs key) h.over h.value.indices)
+    (subst (λ bs. (key : List (List ℕ)) → HasKey w.combination.terms key → AreIndices bs key) k.over k.value.indices)
+    (λ ps long. subst (λ bs. AgreeAt (leaf bs v.combination.den v.combination.terms) r ps) h.over (h.reads ps (long)))
+    (λ ps long. subst (λ bs. AgreeAt (leaf bs w.combination.den w.combination.terms) r ps) k.over (k.reads ps (long))) in
     λ i. record { bases = over i; combination = same i }
 
 -- One operation.
@@ -164,7 +151,7 @@ mutual
 -- what an expression comes to, at its outermost form
 data Opened (names : Names) : Expr-F Expr Factor Signed → Answer → Type 0 where
   at_number : {n : ℕ} → Opened names (form.Number n) (Ok (number_value n))
-  at_element : {b : BasisName} {items : List Lexeme} {basis : BasisId} {code : List ℕ} → Spells b items basis code → Opened names (form.Element b items) (Ok (element_value basis code))
+  at_element : {basis : BasisId} {items : List Lexeme} {code : List ℕ} → Spells basis items code → Opened names (form.Element basis items) (Ok (element_value basis code))
   at_known : {name : List ℕ} {v : Expansion} → value_of names name ≡ Some v → Opened names (form.Named name) (Ok v)
   at_unknown : {name : List ℕ} → value_of names name ≡ None → Opened names (form.Named name) (Err (refusal.UnknownName name))
   at_sum : {part : Signed} {parts : List Signed} {first signed answer : Answer} → Evaluates names part.value first → Signs part.minus first signed
@@ -178,7 +165,7 @@ data Opened (names : Names) : Expr-F Expr Factor Signed → Answer → Type 0 wh
 pub open-number : (n : ℕ) → out-Expr (e.Number n) ≡ form.Number n
 open-number n = ap out-Expr (sym (e.rolls-Number n)) ∙ out-roll-Expr (form.Number n)
 
-pub open-element : (b : BasisName) (items : List Lexeme) → out-Expr (e.Element b items) ≡ form.Element b items
+pub open-element : (b : BasisId) (items : List Lexeme) → out-Expr (e.Element b items) ≡ form.Element b items
 open-element b items = ap out-Expr (sym (e.rolls-Element b items)) ∙ out-roll-Expr (form.Element b items)
 
 pub open-named : (name : List ℕ) → out-Expr (e.Named name) ≡ form.Named name
@@ -196,7 +183,7 @@ open-product parts = ap out-Expr (sym (e.rolls-Product parts)) ∙ out-roll-Expr
 -- An expression comes to its answer at its outermost form.
 opened : (names : Names) (x : Expr) (r : Answer) → Evaluates names x r → Opened names (out-Expr x) r
 opened names x r (number {n = n}) = subst (λ (y : Expr-F Expr Factor Signed). Opened names y r) (sym (open-number n)) at_number
-opened names x r (element {b = b} {items = items} spells) = subst (λ (y : Expr-F Expr Factor Signed). Opened names y r) (sym (open-element b items)) (at_element spells)
+opened names x r (element {basis = basis} {items = items} spells) = subst (λ (y : Expr-F Expr Factor Signed). Opened names y r) (sym (open-element basis items)) (at_element spells)
 opened names x r (known {name = name} is) = subst (λ (y : Expr-F Expr Factor Signed). Opened names y r) (sym (open-named name)) (at_known is)
 opened names x r (unknown {name = name} is) = subst (λ (y : Expr-F Expr Factor Signed). Opened names y r) (sym (open-named name)) (at_unknown is)
 opened names x r (sum part parts h k l) = subst (λ (y : Expr-F Expr Factor Signed). Opened names y r) (sym (open-sum (part ∷ parts))) (at_sum h k l)
@@ -214,10 +201,8 @@ number_once : (names : Names) (n : ℕ) (s : Answer) → Opened names (form.Numb
 number_once names n s at_number = refl
 
 -- So does a basis element.
-element_once : (names : Names) (b : BasisName) (items : List Lexeme) (basis : BasisId) (code : List ℕ) (s : Answer) → Spells b items basis code → Opened names (form.Element b items) s → Ok (element_value basis code) ≡ s
-element_once names b items basis code s spells (at_element {basis = basis'} {code = code'} spells') =
-    let same = spells_once b items basis basis' code code' spells spells' in
-    λ i. Ok (element_value (same.0 i) (same.1 i))
+element_once : (names : Names) (basis : BasisId) (items : List Lexeme) (code : List ℕ) (s : Answer) → Spells basis items code → Opened names (form.Element basis items) s → Ok (element_value basis code) ≡ s
+element_once names basis items code s spells (at_element {code = code'} spells') = ap (λ index. Ok (element_value basis index)) (spells_once basis items code code' spells spells')
 
 -- So does a name that has a value.
 known_once : (names : Names) (name : List ℕ) (v : Expansion) (s : Answer) → value_of names name ≡ Some v → Opened names (form.Named name) s → Ok v ≡ s
@@ -271,8 +256,8 @@ mutual
   -- An expression comes to one answer.
   pub evaluation_once : (names : Names) (x : Expr) (r s : Answer) → AreValues names → Evaluates names x r → Evaluates names x s → r ≡ s
   evaluation_once names x r s values (number {n = n}) second = number_once names n s (opened-at names x (form.Number n) s (open-number n) second)
-  evaluation_once names x r s values (element {b = b} {items = items} {basis = basis} {code = code} spells) second =
-      element_once names b items basis code s spells (opened-at names x (form.Element b items) s (open-element b items) second)
+  evaluation_once names x r s values (element {basis = basis} {items = items} {code = code} spells) second =
+      element_once names basis items code s spells (opened-at names x (form.Element basis items) s (open-element basis items) second)
   evaluation_once names x r s values (known {name = name} {v = v} is) second = known_once names name v s is (opened-at names x (form.Named name) s (open-named name) second)
   evaluation_once names x r s values (unknown {name = name} is) second = unknown_once names name s is (opened-at names x (form.Named name) s (open-named name) second)
   evaluation_once names x r s values (sum part parts {first = first} {signed = signed} h k l) second =

@@ -1,19 +1,15 @@
 -- An expression has one meaning, and what it means decides its value.
 use Rattle.std.proofs.Common.{◌≡◌, ℕ, Ok, Some, List, [], ◌∷◌, length, refl, sym, ◌∙◌, ap, subst}
 use Rattle.std.proofs.lemmas.List.{length-map}
-use Rattle.linear_combos.specs.Readings.{Reading, element, AgreeAt}
-use Rattle.linear_combos.specs.Rows.{kind_of}
-use Rattle.linear_combos.proofs.Agreement.{agree_refl, agree_trans}
-use Rattle.basis_names.specs.declared.bases.BasisId.{BasisId as BasisName}
-use Rattle.hopf_laws.specs.declared.bases.BasisId.{BasisId}
+use Rattle.realisations.specs.Readings.{Reading, element, AgreeAt}
+use Rattle.realisations.specs.Bases.{kind_of}
+use Rattle.realisations.proofs.Agreement.{agree_refl, agree_trans}
+use Rattle.basis_names.specs.declared.bases.BasisId.{BasisId}
 use Rattle.session_tokens.specs.declared.lexeme.Lexeme.{Lexeme}
 use Rattle.session_evaluation.specs.Elements.{Spells}
-use Rattle.hopf_laws.specs.Bases.{row_of, rows_of}
 use Rattle.hopf_laws.specs.Values.{Expansion, Expands, reading_of}
-use Rattle.hopf_laws.proofs.Uniqueness.{length-rows}
 use Rattle.session_grammar.specs.declared.expression.Expr.{Expr, out-Expr}
 use Rattle.session_grammar.specs.declared.expression.Expr.TheOpen.{Expr-F}
-use Rattle.session_grammar.specs.declared.expression.Expr.TheOpen as form
 use Rattle.session_grammar.specs.declared.expression.Factor.{Factor}
 use Rattle.session_grammar.specs.declared.expression.Signed.{Signed}
 use Rattle.session_evaluation.specs.declared.operator.Operator.{Operator}
@@ -25,11 +21,12 @@ use Rattle.session_evaluation.proofs.EvaluationsExist.{evaluated_value}
 use Rattle.session_evaluation.proofs.Meanings.{Alike, answer_meant}
 use Rattle.session_evaluation.proofs.SpelledElements.{spells_once}
 use Rattle.session_evaluation.proofs.OneEvaluation.{expands_once, open-number, open-element, open-named, open-sum, open-tensor, open-product}
+use Rattle.session_grammar.specs.declared.expression.Expr.TheOpen as form
 
 -- what an expression means, at its outermost form
 data OpenedMeaning (names : Names) : Expr-F Expr Factor Signed → Reading → Type 0 where
   at_number : {n : ℕ} → OpenedMeaning names (form.Number n) (number n)
-  at_element : {b : BasisName} {items : List Lexeme} {basis : BasisId} {code : List ℕ} → Spells b items basis code → OpenedMeaning names (form.Element b items) (element (row_of basis) code)
+  at_element : {basis : BasisId} {items : List Lexeme} {code : List ℕ} → Spells basis items code → OpenedMeaning names (form.Element basis items) (element basis code)
   at_name : {name : List ℕ} {v : Expansion} → value_of names name ≡ Some v → OpenedMeaning names (form.Named name) (reading_of v)
   at_sum : {part : Signed} {parts : List Signed} {first whole : Reading} → Means names part.value first
       → Combine names (signed part.minus first) (steps_of_sum parts) whole → OpenedMeaning names (form.Sum (part ∷ parts)) whole
@@ -41,8 +38,8 @@ data OpenedMeaning (names : Names) : Expr-F Expr Factor Signed → Reading → T
 -- An expression means its reading at its outermost form.
 opened_meaning : (names : Names) (x : Expr) (r : Reading) → Means names x r → OpenedMeaning names (out-Expr x) r
 opened_meaning names x r (number_means {n = n}) = subst (λ (y : Expr-F Expr Factor Signed). OpenedMeaning names y r) (sym (open-number n)) at_number
-opened_meaning names x r (element_means {b = b} {items = items} spells) =
-    subst (λ (y : Expr-F Expr Factor Signed). OpenedMeaning names y r) (sym (open-element b items)) (at_element spells)
+opened_meaning names x r (element_means {basis = basis} {items = items} spells) =
+    subst (λ (y : Expr-F Expr Factor Signed). OpenedMeaning names y r) (sym (open-element basis items)) (at_element spells)
 opened_meaning names x r (name_means {name = name} is) = subst (λ (y : Expr-F Expr Factor Signed). OpenedMeaning names y r) (sym (open-named name)) (at_name is)
 opened_meaning names x r (sum_means part parts h l) = subst (λ (y : Expr-F Expr Factor Signed). OpenedMeaning names y r) (sym (open-sum (part ∷ parts))) (at_sum h l)
 opened_meaning names x r (tensor_means part parts h l) =
@@ -61,10 +58,8 @@ number_once : (names : Names) (n : ℕ) (s : Reading) → OpenedMeaning names (f
 number_once names n s at_number = refl
 
 -- So does a basis element.
-element_once : (names : Names) (b : BasisName) (items : List Lexeme) (basis : BasisId) (code : List ℕ) (s : Reading) → Spells b items basis code → OpenedMeaning names (form.Element b items) s → element (row_of basis) code ≡ s
-element_once names b items basis code s spells (at_element {basis = basis'} {code = code'} spells') =
-    let same = spells_once b items basis basis' code code' spells spells' in
-    λ i. element (row_of (same.0 i)) (same.1 i)
+element_once : (names : Names) (basis : BasisId) (items : List Lexeme) (code : List ℕ) (s : Reading) → Spells basis items code → OpenedMeaning names (form.Element basis items) s → element basis code ≡ s
+element_once names basis items code s spells (at_element {code = code'} spells') = ap (λ index. element basis index) (spells_once basis items code code' spells spells')
 
 -- So does a name.
 name_once : (names : Names) (name : List ℕ) (v : Expansion) (s : Reading) → value_of names name ≡ Some v → OpenedMeaning names (form.Named name) s → reading_of v ≡ s
@@ -109,8 +104,8 @@ mutual
   -- An expression means one reading.
   pub means_once : (names : Names) (x : Expr) (r s : Reading) → Means names x r → Means names x s → r ≡ s
   means_once names x r s (number_means {n = n}) second = number_once names n s (meaning-at names x (form.Number n) s (open-number n) second)
-  means_once names x r s (element_means {b = b} {items = items} {basis = basis} {code = code} spells) second =
-      element_once names b items basis code s spells (meaning-at names x (form.Element b items) s (open-element b items) second)
+  means_once names x r s (element_means {basis = basis} {items = items} {code = code} spells) second =
+      element_once names basis items code s spells (meaning-at names x (form.Element basis items) s (open-element basis items) second)
   means_once names x r s (name_means {name = name} {v = v} is) second = name_once names name v s is (meaning-at names x (form.Named name) s (open-named name) second)
   means_once names x r s (sum_means part parts {first = first} h l) second =
       sum_once names part parts first r s
@@ -145,7 +140,7 @@ means_alike names x v r values evaluates means =
 
 -- What a value is like, it agrees with at each tuple that has a point for each of its bases.
 alike_at : (v : Expansion) (r : Reading) (ps : List (List ℕ)) → Alike (reading_of v) r → length ps ≡ length v.bases → AgreeAt (reading_of v) r ps
-alike_at v r ps alike long = alike.agree ps (long ∙ sym (length-rows v.bases) ∙ sym (length-map (rows_of v.bases) kind_of))
+alike_at v r ps alike long = alike.agree ps (long ∙ sym (length-map v.bases kind_of))
 
 -- Expressions that mean the same, and have values over the same bases, have the same value.
 pub same_meaning : SameMeaning

@@ -7,8 +7,8 @@ use Rattle.hopf_laws.specs.Values.{Expansion, Expands}
 use Rattle.basis_routes.specs.declared.refusal.Refusal.{Refusal}
 use Rattle.basis_routes.specs.Checks.{Tests}
 use Rattle.session_evaluation.specs.declared.operator.Operator.{Operator}
-use Rattle.session_evaluation.specs.declared.refusal.EvaluationRefusal.TheVariants as refusal
 use Rattle.session_evaluation.specs.Evaluation.{Answer, told, OrMemory, checks_of, result_bases, result_of, Operates, answers, fails}
+use Rattle.session_evaluation.specs.declared.refusal.EvaluationRefusal.TheVariants as refusal
 
 -- any two numbers have a least common multiple
 pub lcm_exists : (a b : ℕ) → (m : ℕ) × IsLcm a b m

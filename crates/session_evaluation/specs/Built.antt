@@ -1,23 +1,22 @@
 -- What evaluation asks of an expression, and every statement of the grammar in which nothing is refused has.
 use Rattle.std.specs.Prelude.{ℕ, ◌^◌, ◌<◌, List, [], ◌∷◌}
-use Rattle.basis_names.specs.declared.bases.BasisId.{BasisId as BasisName}
-use Rattle.hopf_laws.specs.declared.bases.BasisId.{BasisId}
+use Rattle.basis_names.specs.declared.bases.BasisId.{BasisId}
 use Rattle.session_tokens.specs.declared.lexeme.Lexeme.{Lexeme}
 use Rattle.session_evaluation.specs.Elements.{Spells}
 use Rattle.session_grammar.specs.declared.expression.Expr.{Expr}
-use Rattle.session_grammar.specs.declared.expression.Expr.TheVariants as e
 use Rattle.session_grammar.specs.declared.expression.Factor.{Factor}
 use Rattle.session_grammar.specs.declared.expression.Signed.{Signed}
 use Rattle.session_grammar.specs.declared.expression.Statement.{Statement}
-use Rattle.session_grammar.specs.declared.expression.Statement.TheVariants as s
 use Rattle.session_evaluation.specs.declared.operator.Operator.{Operator}
 use Rattle.session_evaluation.specs.Evaluation.{Steps, steps_of_sum, steps_of_tensor, steps_of_product}
+use Rattle.session_grammar.specs.declared.expression.Expr.TheVariants as e
+use Rattle.session_grammar.specs.declared.expression.Statement.TheVariants as s
 
 -- its forms are built, its numbers are below 2^127, its lists spell indices, and sums, tensors and products have a part
 mutual
   pub data IsBuilt : Expr → Type 0 where
     built_number : {n : ℕ} → n < 2 ^ 127 → IsBuilt (e.Number n)
-    built_element : {b : BasisName} {items : List Lexeme} {basis : BasisId} {code : List ℕ} → Spells b items basis code → IsBuilt (e.Element b items)
+    built_element : {basis : BasisId} {items : List Lexeme} {code : List ℕ} → Spells basis items code → IsBuilt (e.Element basis items)
     built_name : {name : List ℕ} → IsBuilt (e.Named name)
     built_sum : (part : Signed) (parts : List Signed) → IsBuilt part.value → AreBuilt (steps_of_sum parts) → IsBuilt (e.Sum (part ∷ parts))
     built_tensor : (part : Expr) (parts : List Expr) → IsBuilt part → AreBuilt (steps_of_tensor parts) → IsBuilt (e.Tensor (part ∷ parts))

@@ -1,28 +1,27 @@
 -- What an expression comes to: its value, or the refusal that comes first. Operands are evaluated from left to right.
 use Rattle.std.specs.Prelude.{◌≡◌, ◌⊎◌, ℕ, pos, Bool, true, false, List, [], ◌∷◌, ◌++◌, map, All, Some, None, Result, Ok, Err, if◌then◌else◌}
 use Rattle.hopf_num.specs.Divisors.{IsLcm}
-use Rattle.linear_combos.specs.Combos.{terms_of}
-use Rattle.linear_combos.specs.Readings.{Reading, tensor}
-use Rattle.basis_names.specs.declared.bases.BasisId.{BasisId as BasisName}
-use Rattle.hopf_laws.specs.declared.bases.BasisId.{BasisId}
+use Rattle.realisations.specs.Combinations.{terms_of}
+use Rattle.realisations.specs.Readings.{Reading, tensor}
+use Rattle.basis_names.specs.declared.bases.BasisId.{BasisId}
 use Rattle.session_tokens.specs.declared.lexeme.Lexeme.{Lexeme}
 use Rattle.session_evaluation.specs.Elements.{Spells}
 use Rattle.hopf_laws.specs.Values.{Expansion, Expands, reading_of}
 use Rattle.basis_routes.specs.declared.checks.Check.{Check}
 use Rattle.basis_routes.specs.declared.refusal.Refusal.{Refusal}
-use Rattle.basis_routes.specs.declared.refusal.Refusal.TheVariants as value
 use Rattle.basis_routes.specs.Checks.{Passes, IsFirstFailing}
 use Rattle.basis_routes.specs.Joins.{joined}
 use Rattle.hopf_ops.specs.Operations.{sum_checks, sum_or_difference_of, negation_of, tensor_checks, product_checks, product_bases, product_of, quotient_checks, quotient_of}
 use Rattle.session_grammar.specs.declared.expression.Expr.{Expr}
-use Rattle.session_grammar.specs.declared.expression.Expr.TheVariants as e
 use Rattle.session_grammar.specs.declared.expression.Factor.{Factor}
 use Rattle.session_grammar.specs.declared.expression.Signed.{Signed}
 use Rattle.session_evaluation.specs.declared.operator.Operator.{Operator}
 use Rattle.session_evaluation.specs.declared.operator.Operator.TheVariants.{Plus, Minus, Hash, Times, Over}
 use Rattle.session_evaluation.specs.declared.refusal.EvaluationRefusal.{EvaluationRefusal}
-use Rattle.session_evaluation.specs.declared.refusal.EvaluationRefusal.TheVariants as refusal
 use Rattle.session_evaluation.specs.Names.{Names, value_of}
+use Rattle.basis_routes.specs.declared.refusal.Refusal.TheVariants as value
+use Rattle.session_grammar.specs.declared.expression.Expr.TheVariants as e
+use Rattle.session_evaluation.specs.declared.refusal.EvaluationRefusal.TheVariants as refusal
 
 -- a value, or why there is none
 abbrev pub Answer : Type 0
@@ -97,7 +96,7 @@ steps_of_product parts = map (λ part. (if part.divides then Over else Times, pa
 mutual
   pub data Evaluates (names : Names) : Expr → Answer → Type 0 where
     number : {n : ℕ} → Evaluates names (e.Number n) (Ok (number_value n))
-    element : {b : BasisName} {items : List Lexeme} {basis : BasisId} {code : List ℕ} → Spells b items basis code → Evaluates names (e.Element b items) (Ok (element_value basis code))
+    element : {basis : BasisId} {items : List Lexeme} {code : List ℕ} → Spells basis items code → Evaluates names (e.Element basis items) (Ok (element_value basis code))
     known : {name : List ℕ} {v : Expansion} → value_of names name ≡ Some v → Evaluates names (e.Named name) (Ok v)
     unknown : {name : List ℕ} → value_of names name ≡ None → Evaluates names (e.Named name) (Err (refusal.UnknownName name))
     sum : (part : Signed) (parts : List Signed) {first signed answer : Answer} → Evaluates names part.value first → Signs part.minus first signed
@@ -117,8 +116,8 @@ mutual
 -- Nothing below need be believed: it serves the private parts of the evaluator.
 
 -- the answer is the element that is spelled
-abbrev pub IsElement : BasisName → List Lexeme → Answer → Type 0
-IsElement b items answer = (basis : BasisId) × (code : List ℕ) × Spells b items basis code × (answer ≡ Ok (element_value basis code))
+abbrev pub IsElement : BasisId → List Lexeme → Answer → Type 0
+IsElement basis items answer = (code : List ℕ) × Spells basis items code × (answer ≡ Ok (element_value basis code))
 
 -- the refusal of an operation is that of its statement
 abbrev pub told : Result Expansion Refusal → Answer

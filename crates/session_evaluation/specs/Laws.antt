@@ -1,6 +1,6 @@
 -- Laws of meanings.
 use Rattle.std.specs.Prelude.{◌≡◌, ℕ, List, Ok, length}
-use Rattle.linear_combos.specs.Readings.{Reading, AgreeAt}
+use Rattle.realisations.specs.Readings.{Reading, AgreeAt}
 use Rattle.hopf_laws.specs.Values.{Expansion}
 use Rattle.session_grammar.specs.declared.expression.Expr.{Expr}
 use Rattle.session_evaluation.specs.Built.{IsBuilt}

@@ -1,21 +1,19 @@
 -- What an expression means: a reading, whatever bases its parts were entered in.
 use Rattle.std.specs.Prelude.{◌≡◌, ℕ, pos, negsuc, Bool, List, [], ◌∷◌, ◌||◌, Some, length, nat_eq, if◌then◌else◌}
 use Rattle.hopf_num.specs.Fractions.{Ratio, reciprocal}
-use Rattle.linear_combos.specs.Readings.{Reading, leaf, element, product, tensor, sum_of, multiple, kinds_of, numerator, denominator, AgreeAt}
-use Rattle.basis_names.specs.declared.bases.BasisId.{BasisId as BasisName}
-use Rattle.hopf_laws.specs.declared.bases.BasisId.{BasisId}
+use Rattle.realisations.specs.Readings.{Reading, leaf, element, product, tensor, sum_of, multiple, kinds_of, numerator, denominator, AgreeAt}
+use Rattle.basis_names.specs.declared.bases.BasisId.{BasisId}
 use Rattle.session_tokens.specs.declared.lexeme.Lexeme.{Lexeme}
 use Rattle.session_evaluation.specs.Elements.{Spells}
-use Rattle.hopf_laws.specs.Bases.{row_of}
 use Rattle.hopf_laws.specs.Values.{Expansion, reading_of}
 use Rattle.session_grammar.specs.declared.expression.Expr.{Expr}
-use Rattle.session_grammar.specs.declared.expression.Expr.TheVariants as e
 use Rattle.session_grammar.specs.declared.expression.Factor.{Factor}
 use Rattle.session_grammar.specs.declared.expression.Signed.{Signed}
 use Rattle.session_evaluation.specs.declared.operator.Operator.{Operator}
 use Rattle.session_evaluation.specs.declared.operator.Operator.TheVariants.{Plus, Minus, Hash, Times, Over}
 use Rattle.session_evaluation.specs.Names.{Names, value_of}
 use Rattle.session_evaluation.specs.Evaluation.{Steps, steps_of_sum, steps_of_tensor, steps_of_product}
+use Rattle.session_grammar.specs.declared.expression.Expr.TheVariants as e
 
 -- a number, which has no component
 abbrev pub number : ℕ → Reading
@@ -47,7 +45,7 @@ signed minus a = if minus then negative a else a
 mutual
   pub data Means (names : Names) : Expr → Reading → Type 0 where
     number_means : {n : ℕ} → Means names (e.Number n) (number n)
-    element_means : {b : BasisName} {items : List Lexeme} {basis : BasisId} {code : List ℕ} → Spells b items basis code → Means names (e.Element b items) (element (row_of basis) code)
+    element_means : {basis : BasisId} {items : List Lexeme} {code : List ℕ} → Spells basis items code → Means names (e.Element basis items) (element basis code)
     name_means : {name : List ℕ} {v : Expansion} → value_of names name ≡ Some v → Means names (e.Named name) (reading_of v)
     sum_means : (part : Signed) (parts : List Signed) {first whole : Reading} → Means names part.value first
         → Combine names (signed part.minus first) (steps_of_sum parts) whole → Means names (e.Sum (part ∷ parts)) whole

@@ -2,25 +2,25 @@
 use Rattle.std.proofs.Common.{◌≡◌, ℕ, zero, suc, List, [], ◌∷◌, ◌++◌, Option, Some, None, ◌↔◌}
 use Rattle.basis_names.specs.declared.bases.BasisId.{BasisId}
 use Rattle.session_grammar.specs.declared.expression.Expr.{Expr}
-use Rattle.session_grammar.specs.declared.expression.Expr.TheVariants as e
 use Rattle.session_grammar.specs.declared.expression.Factor.{Factor}
 use Rattle.session_grammar.specs.declared.expression.Signed.{Signed}
 use Rattle.session_grammar.specs.declared.expression.Statement.{Statement}
-use Rattle.session_grammar.specs.declared.expression.Statement.TheVariants as s
 use Rattle.session_tokens.specs.declared.lexeme.Lexeme.{Lexeme}
-use Rattle.session_tokens.specs.declared.lexeme.Lexeme.TheVariants as lex
 use Rattle.session_grammar.specs.declared.state.Base.{Base}
-use Rattle.session_grammar.specs.declared.state.Base.TheVariants as base
 use Rattle.session_grammar.specs.declared.state.Call.{Call}
-use Rattle.session_grammar.specs.declared.state.Call.TheVariants as call
 use Rattle.session_grammar.specs.declared.state.Level.{Level}
 use Rattle.session_grammar.specs.declared.state.Map.{Map}
-use Rattle.session_grammar.specs.declared.state.Map.TheVariants as map
 use Rattle.session_grammar.specs.declared.state.Mode.{Mode}
-use Rattle.session_grammar.specs.declared.state.Mode.TheVariants as m
 use Rattle.session_grammar.specs.Grammar.{IsList, AreItems, inside, component, Ending, Through, Atom, Factors, Products, Tensors, Sum, IsStatement}
 use Rattle.session_grammar.specs.ListStates.{element_at}
 use Rattle.session_grammar.specs.ParserSteps.{push, whole, calling, mapped, State}
+use Rattle.session_grammar.specs.declared.expression.Expr.TheVariants as e
+use Rattle.session_grammar.specs.declared.expression.Statement.TheVariants as s
+use Rattle.session_tokens.specs.declared.lexeme.Lexeme.TheVariants as lex
+use Rattle.session_grammar.specs.declared.state.Base.TheVariants as base
+use Rattle.session_grammar.specs.declared.state.Call.TheVariants as call
+use Rattle.session_grammar.specs.declared.state.Map.TheVariants as map
+use Rattle.session_grammar.specs.declared.state.Mode.TheVariants as m
 
 -- behind an item: the end of its list, or a comma and more items
 pub data BehindItem : List Lexeme → List Lexeme → Type 0 where

@@ -3,21 +3,21 @@ use Rattle.std.proofs.Common.{◌≡◌, ℕ, List, [], ◌∷◌, ◌++◌, ref
 use Rattle.std.proofs.lemmas.List.{append-nil}
 use Rattle.basis_names.specs.declared.bases.BasisId.{BasisId}
 use Rattle.session_grammar.specs.declared.expression.Expr.{Expr}
-use Rattle.session_grammar.specs.declared.expression.Expr.TheVariants as e
 use Rattle.session_grammar.specs.declared.expression.Statement.{Statement}
 use Rattle.session_tokens.specs.declared.lexeme.Lexeme.{Lexeme}
-use Rattle.session_tokens.specs.declared.lexeme.Lexeme.TheVariants as lex
 use Rattle.session_grammar.specs.declared.state.Base.{Base}
 use Rattle.session_grammar.specs.declared.state.Call.{Call}
-use Rattle.session_grammar.specs.declared.state.Call.TheVariants as call
 use Rattle.session_grammar.specs.declared.state.Level.{Level}
 use Rattle.session_grammar.specs.declared.state.Map.{Map}
-use Rattle.session_grammar.specs.declared.state.Map.TheVariants as map
-use Rattle.session_grammar.specs.declared.state.Mode.TheVariants as m
 use Rattle.session_grammar.specs.Grammar.{IsList, inside, component, Through, last_basis, one_basis}
 use Rattle.session_grammar.specs.ListStates.{element_at}
 use Rattle.session_grammar.specs.ParserSteps.{push, calling, basis_step, opens_step, count_step, counted_step, component_step, components_step, through_step, passed_step}
 use Rattle.session_grammar.proofs.Accepted.{BehindBasis, bases_end, bases_go, After, Start, Next, next, NextNumber, next_number, BehindName, with_list, with_bracket, Accepts, Exact}
+use Rattle.session_grammar.specs.declared.expression.Expr.TheVariants as e
+use Rattle.session_tokens.specs.declared.lexeme.Lexeme.TheVariants as lex
+use Rattle.session_grammar.specs.declared.state.Call.TheVariants as call
+use Rattle.session_grammar.specs.declared.state.Map.TheVariants as map
+use Rattle.session_grammar.specs.declared.state.Mode.TheVariants as m
 
 -- What stands in front.
 Next-first : {P : List Lexeme → Type 0} {t k : Lexeme} {ts : List Lexeme} → Next P t (k ∷ ts) → k ≡ t

@@ -3,17 +3,17 @@ use Rattle.std.proofs.Common.{◌≡◌, ℕ, zero, suc, Bool, true, false, List
 use Rattle.basis_names.specs.declared.bases.BasisId.{BasisId}
 use Rattle.session_grammar.specs.declared.expression.Expr.{Expr}
 use Rattle.session_tokens.specs.declared.lexeme.Lexeme.{Lexeme}
-use Rattle.session_tokens.specs.declared.lexeme.Lexeme.TheVariants as lex
 use Rattle.session_grammar.specs.declared.state.Base.{Base}
-use Rattle.session_grammar.specs.declared.state.Base.TheVariants as base
 use Rattle.session_grammar.specs.declared.state.Call.{Call}
-use Rattle.session_grammar.specs.declared.state.Call.TheVariants as call
 use Rattle.session_grammar.specs.declared.state.Level.{Level}
 use Rattle.session_grammar.specs.declared.state.Map.{Map}
 use Rattle.session_grammar.specs.declared.state.Mode.{Mode}
-use Rattle.session_grammar.specs.declared.state.Mode.TheVariants as m
 use Rattle.session_tokens.specs.Words.{is_word, word_of}
 use Rattle.session_grammar.specs.ParserSteps.{State, fresh, close_in, close_step, comma_in, comma_step, equals_step, after_step, operand_step, start_step, basis_step, item_step, list_ends, list_step, behind_step, opens_step, count_step, counted_step, component_step, components_step, through_step, passed_step, inner_step, and_then, assign_step, word_step, step, step_in}
+use Rattle.session_tokens.specs.declared.lexeme.Lexeme.TheVariants as lex
+use Rattle.session_grammar.specs.declared.state.Base.TheVariants as base
+use Rattle.session_grammar.specs.declared.state.Call.TheVariants as call
+use Rattle.session_grammar.specs.declared.state.Mode.TheVariants as m
 
 abbrev pub IsFine : Mode → Type 0
 IsFine (m.Word w) = is_word w ≡ true

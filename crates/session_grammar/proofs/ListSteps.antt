@@ -4,14 +4,14 @@ use Rattle.std.proofs.lemmas.List.{append-nil}
 use Rattle.basis_names.specs.declared.bases.BasisId.{BasisId}
 use Rattle.session_grammar.specs.declared.expression.Statement.{Statement}
 use Rattle.session_tokens.specs.declared.lexeme.Lexeme.{Lexeme}
-use Rattle.session_tokens.specs.declared.lexeme.Lexeme.TheVariants as lex
 use Rattle.session_grammar.specs.declared.state.Base.{Base}
 use Rattle.session_grammar.specs.declared.state.Level.{Level}
-use Rattle.session_grammar.specs.declared.state.Mode.TheVariants as m
 use Rattle.session_grammar.specs.Grammar.{AreItems, IsItem, empty_list, full_list, last_item, one_item, number_item, list_item, inside}
 use Rattle.session_grammar.specs.ListStates.{ListState, listing, element_at}
 use Rattle.session_grammar.specs.ParserSteps.{State, push, list_step, list_ends, item_step, behind_step}
 use Rattle.session_grammar.proofs.Accepted.{BehindItem, item_ends, item_goes, EndLists, InList, InItems, After, Accepts, Exact}
+use Rattle.session_tokens.specs.declared.lexeme.Lexeme.TheVariants as lex
+use Rattle.session_grammar.specs.declared.state.Mode.TheVariants as m
 
 items-join : {ts q r : List Lexeme} → IsItem ts q → BehindItem q r → AreItems ts r
 items-join h item_ends = last_item h

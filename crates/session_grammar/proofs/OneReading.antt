@@ -5,15 +5,15 @@ use Rattle.std.proofs.lemmas.List.{append-nil, take_more, take-append-drop, take
 use Rattle.std.proofs.lemmas.Option.{slice_get-get_or, slice_get_past}
 use Rattle.std.proofs.Math.Seq.{take-length, take-append_seam, get_or-append_seam}
 use Rattle.session_tokens.specs.declared.lexeme.Lexeme.{Lexeme}
-use Rattle.session_tokens.specs.declared.lexeme.Lexeme.TheVariants as lex
 use Rattle.session_grammar.specs.declared.expression.Statement.{Statement}
 use Rattle.session_grammar.specs.declared.parsed.Parsed.{Parsed}
-use Rattle.session_grammar.specs.declared.parsed.Parsed.TheVariants as parsed
 use Rattle.session_grammar.specs.Grammar.{IsStatement}
 use Rattle.session_grammar.specs.ParserSteps.{State, first_state, step, finish}
 use Rattle.session_grammar.specs.Parses.{IsOnlyStatement, Begins, BeginsNone, IsFirstBad, IsParsed}
 use Rattle.session_grammar.proofs.ReachedStates.{IsReached, reached-first, reached-step, reached-begins, reached-dead, done-with, short-with}
 use Rattle.session_grammar.proofs.StatementSteps.{finish-exact}
+use Rattle.session_tokens.specs.declared.lexeme.Lexeme.TheVariants as lex
+use Rattle.session_grammar.specs.declared.parsed.Parsed.TheVariants as parsed
 
 -- The first lexeme that begins no statement.
 

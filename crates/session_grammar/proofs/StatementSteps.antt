@@ -2,18 +2,12 @@
 use Rattle.std.proofs.Common.{◌≡◌, ℕ, zero, suc, Bool, true, false, List, [], ◌∷◌, ◌++◌, Option, Some, None, refl, sym, ap, subst, ◌↔◌, if◌then◌else◌}
 use Rattle.basis_names.specs.declared.bases.BasisId.TheVariants.{QsymM}
 use Rattle.session_grammar.specs.declared.expression.Expr.{Expr}
-use Rattle.session_grammar.specs.declared.expression.Expr.TheVariants as e
 use Rattle.session_grammar.specs.declared.expression.Statement.{Statement}
-use Rattle.session_grammar.specs.declared.expression.Statement.TheVariants as s
 use Rattle.session_tokens.specs.declared.lexeme.Lexeme.{Lexeme}
-use Rattle.session_tokens.specs.declared.lexeme.Lexeme.TheVariants as lex
 use Rattle.session_grammar.specs.declared.state.Base.{Base}
-use Rattle.session_grammar.specs.declared.state.Base.TheVariants as base
 use Rattle.session_grammar.specs.declared.state.Call.{Call}
-use Rattle.session_grammar.specs.declared.state.Call.TheVariants as call
 use Rattle.session_grammar.specs.declared.state.Level.{Level}
 use Rattle.session_grammar.specs.declared.state.Mode.{Mode}
-use Rattle.session_grammar.specs.declared.state.Mode.TheVariants as m
 use Rattle.session_grammar.specs.Grammar.{IsList, AreItems, empty_list, full_list, last_item, one_item, number_item, list_item, inside, component, bare, last_basis, number, no_factors, product, no_products, tensor, no_tensors, Sum, sum, IsStatement, nothing, assign, print, equal}
 use Rattle.session_tokens.specs.Words.{word_of, is_word, is_some}
 use Rattle.session_grammar.specs.ListStates.{ListState, element_at}
@@ -23,6 +17,12 @@ use Rattle.session_grammar.proofs.CallSteps.{opens-exact, basis-exact, count-exa
 use Rattle.session_grammar.proofs.ListSteps.{number-items, list-exact, item-exact, behind-exact}
 use Rattle.session_grammar.proofs.FineSteps.{IsFine, IsInSum, AllInSum, start-in-sum}
 use Rattle.session_grammar.proofs.SumSteps.{closes-after, after-end, after-open, after-exact, operand-exact, operand-start, start-exact}
+use Rattle.session_grammar.specs.declared.expression.Expr.TheVariants as e
+use Rattle.session_grammar.specs.declared.expression.Statement.TheVariants as s
+use Rattle.session_tokens.specs.declared.lexeme.Lexeme.TheVariants as lex
+use Rattle.session_grammar.specs.declared.state.Base.TheVariants as base
+use Rattle.session_grammar.specs.declared.state.Call.TheVariants as call
+use Rattle.session_grammar.specs.declared.state.Mode.TheVariants as m
 
 -- the sum of a number alone
 zero-sum : (r : List Lexeme) → Sum (lex.Number 0 ∷ r) r (e.Number 0)

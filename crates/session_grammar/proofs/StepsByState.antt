@@ -1,11 +1,11 @@
 -- What the parser's step is in the states that no case of it names.
 use Rattle.std.proofs.Common.{◌≡◌, [], Option, Some, refl, ap, ◌∙◌}
 use Rattle.session_tokens.specs.declared.lexeme.Lexeme.{Lexeme}
+use Rattle.session_grammar.specs.declared.state.Mode.{Mode}
+use Rattle.session_grammar.specs.ParserSteps.{State, step_in, inner_step, word_step, and_then, start_step, inner_end, finish_in}
 use Rattle.session_tokens.specs.declared.lexeme.Lexeme.TheVariants as lex
 use Rattle.session_grammar.specs.declared.state.Base.TheVariants as base
-use Rattle.session_grammar.specs.declared.state.Mode.{Mode}
 use Rattle.session_grammar.specs.declared.state.Mode.TheVariants as m
-use Rattle.session_grammar.specs.ParserSteps.{State, step_in, inner_step, word_step, and_then, start_step, inner_end, finish_in}
 
 pub step_in-in_sum : (mode : Mode) (q : State) (t : Lexeme) → (mode ≡ m.First → ⊥) → ((w : Lexeme) → mode ≡ m.Word w → ⊥)
     → step_in mode q t ≡ inner_step q.base mode q.below q.level t

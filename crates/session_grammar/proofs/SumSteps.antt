@@ -3,24 +3,24 @@ use Rattle.std.proofs.Common.{◌≡◌, ℕ, true, false, List, [], ◌∷◌, 
 use Rattle.std.proofs.lemmas.List.{append-nil}
 use Rattle.basis_names.specs.declared.bases.BasisId.{BasisId}
 use Rattle.session_grammar.specs.declared.expression.Expr.{Expr}
-use Rattle.session_grammar.specs.declared.expression.Expr.TheVariants as e
 use Rattle.session_grammar.specs.declared.expression.Factor.{Factor}
 use Rattle.session_tokens.specs.declared.lexeme.Linear.{Linear}
 use Rattle.session_grammar.specs.declared.expression.Signed.{Signed}
 use Rattle.session_grammar.specs.declared.expression.Statement.{Statement}
 use Rattle.session_tokens.specs.declared.lexeme.Lexeme.{Lexeme}
-use Rattle.session_tokens.specs.declared.lexeme.Lexeme.TheVariants as lex
 use Rattle.session_grammar.specs.declared.state.Base.{Base}
-use Rattle.session_grammar.specs.declared.state.Base.TheVariants as base
 use Rattle.session_grammar.specs.declared.state.Call.{Call}
-use Rattle.session_grammar.specs.declared.state.Call.TheVariants as call
 use Rattle.session_grammar.specs.declared.state.Level.{Level}
 use Rattle.session_grammar.specs.declared.state.Map.{Map}
-use Rattle.session_grammar.specs.declared.state.Map.TheVariants as map
-use Rattle.session_grammar.specs.declared.state.Mode.TheVariants as m
 use Rattle.session_grammar.specs.Grammar.{Ending, bare, numbered, Atom, number, named, element, convert, apply, pair, along, group, Factors, no_factors, times, over, product, Products, no_products, hash, tensor, Tensors, no_tensors, plus, minus, sum, negative, factor, signed, product_of, tensor_of}
 use Rattle.session_grammar.specs.ParserSteps.{State, push, whole, value_of, fresh, next_tensor, next_part, calling, mapped, close_in, close_step, comma_in, comma_step, equals_step, after_step, operand_step, start_step}
 use Rattle.session_grammar.proofs.Accepted.{Ends, group_ends, map_ends, pair_goes, pair_ends, along_goes, Rest, Bottom, equals, compares, Closes, After, Operand, Start, next, next_number, BehindName, with_list, with_bracket, Accepts, Exact}
+use Rattle.session_grammar.specs.declared.expression.Expr.TheVariants as e
+use Rattle.session_tokens.specs.declared.lexeme.Lexeme.TheVariants as lex
+use Rattle.session_grammar.specs.declared.state.Base.TheVariants as base
+use Rattle.session_grammar.specs.declared.state.Call.TheVariants as call
+use Rattle.session_grammar.specs.declared.state.Map.TheVariants as map
+use Rattle.session_grammar.specs.declared.state.Mode.TheVariants as m
 
 -- What may stand in front.
 abbrev pub IsTimes : Lexeme → Type 0

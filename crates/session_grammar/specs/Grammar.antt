@@ -1,18 +1,18 @@
 -- The grammar: a relation between lexemes, those that are left behind them, and what was read; one constructor a production.
 use Rattle.std.specs.Prelude.{◌≡◌, ℕ, zero, suc, ◌-◌, ◌^◌, min, Bool, true, false, List, [], ◌∷◌, Option, Some, None}
 use Rattle.session_grammar.specs.declared.expression.Place.{Place}
-use Rattle.session_grammar.specs.declared.expression.Place.TheVariants as place
 use Rattle.basis_names.specs.declared.bases.BasisId.{BasisId}
 use Rattle.session_grammar.specs.declared.expression.Expr.{Expr}
-use Rattle.session_grammar.specs.declared.expression.Expr.TheVariants as e
 use Rattle.session_grammar.specs.declared.expression.Factor.{Factor}
 use Rattle.session_tokens.specs.declared.lexeme.Linear.{Linear}
 use Rattle.session_grammar.specs.declared.expression.Signed.{Signed}
 use Rattle.session_grammar.specs.declared.expression.Statement.{Statement}
-use Rattle.session_grammar.specs.declared.expression.Statement.TheVariants as s
 use Rattle.session_tokens.specs.declared.lexeme.Lexeme.{Lexeme}
-use Rattle.session_tokens.specs.declared.lexeme.Lexeme.TheVariants as lex
 use Rattle.session_tokens.specs.Words.{word_of}
+use Rattle.session_grammar.specs.declared.expression.Place.TheVariants as place
+use Rattle.session_grammar.specs.declared.expression.Expr.TheVariants as e
+use Rattle.session_grammar.specs.declared.expression.Statement.TheVariants as s
+use Rattle.session_tokens.specs.declared.lexeme.Lexeme.TheVariants as lex
 
 -- Lists of items.
 

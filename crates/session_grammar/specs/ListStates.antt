@@ -2,8 +2,8 @@
 use Rattle.std.specs.Prelude.{ℕ, List}
 use Rattle.basis_names.specs.declared.bases.BasisId.{BasisId}
 use Rattle.session_grammar.specs.declared.expression.Expr.{Expr}
-use Rattle.session_grammar.specs.declared.expression.Expr.TheVariants as e
 use Rattle.session_tokens.specs.declared.lexeme.Lexeme.{Lexeme}
+use Rattle.session_grammar.specs.declared.expression.Expr.TheVariants as e
 
 -- the basis before the list; how many lists are open inside it; and its lexemes so far, without its own brackets
 pub record ListState : Type 0 where

@@ -2,26 +2,26 @@
 use Rattle.std.specs.Prelude.{ℕ, zero, suc, Bool, true, false, List, [], ◌∷◌, ◌++◌, Option, Some, None, reverse, if◌then◌else◌}
 use Rattle.basis_names.specs.declared.bases.BasisId.{BasisId}
 use Rattle.session_grammar.specs.declared.expression.Expr.{Expr}
-use Rattle.session_grammar.specs.declared.expression.Expr.TheVariants as e
 use Rattle.session_grammar.specs.declared.expression.Factor.{Factor}
 use Rattle.session_grammar.specs.declared.expression.Signed.{Signed}
 use Rattle.session_grammar.specs.declared.expression.Statement.{Statement}
-use Rattle.session_grammar.specs.declared.expression.Statement.TheVariants as s
 use Rattle.session_tokens.specs.declared.lexeme.Lexeme.{Lexeme}
-use Rattle.session_tokens.specs.declared.lexeme.Lexeme.TheVariants as lex
 use Rattle.session_grammar.specs.declared.state.Base.{Base}
-use Rattle.session_grammar.specs.declared.state.Base.TheVariants as base
 use Rattle.session_grammar.specs.declared.state.Call.{Call}
-use Rattle.session_grammar.specs.declared.state.Call.TheVariants as call
 use Rattle.session_grammar.specs.declared.state.Level.{Level}
 use Rattle.session_grammar.specs.declared.state.Map.{Map}
-use Rattle.session_grammar.specs.declared.state.Map.TheVariants as map
 use Rattle.session_grammar.specs.declared.state.Mode.{Mode}
-use Rattle.session_grammar.specs.declared.state.Mode.TheVariants as m
 use Rattle.session_grammar.specs.declared.state.Stack.{Stack}
 use Rattle.session_grammar.specs.ListStates.{listing, element_at}
 use Rattle.session_grammar.specs.Grammar.{factor, signed, product_of, tensor_of, sum_of, component, place_of}
 use Rattle.session_tokens.specs.Words.{word_of, is_word}
+use Rattle.session_grammar.specs.declared.expression.Expr.TheVariants as e
+use Rattle.session_grammar.specs.declared.expression.Statement.TheVariants as s
+use Rattle.session_tokens.specs.declared.lexeme.Lexeme.TheVariants as lex
+use Rattle.session_grammar.specs.declared.state.Base.TheVariants as base
+use Rattle.session_grammar.specs.declared.state.Call.TheVariants as call
+use Rattle.session_grammar.specs.declared.state.Map.TheVariants as map
+use Rattle.session_grammar.specs.declared.state.Mode.TheVariants as m
 
 -- A level.
 

@@ -3,8 +3,8 @@ use Rattle.std.specs.Prelude.{◌≡◌, ℕ, ◌≤◌, List, [], ◌∷◌, �
 use Rattle.session_grammar.specs.declared.expression.Statement.{Statement}
 use Rattle.session_tokens.specs.declared.lexeme.Lexeme.{Lexeme}
 use Rattle.session_grammar.specs.declared.parsed.Parsed.{Parsed}
-use Rattle.session_grammar.specs.declared.parsed.Parsed.TheVariants as parsed
 use Rattle.session_grammar.specs.Grammar.{IsStatement}
+use Rattle.session_grammar.specs.declared.parsed.Parsed.TheVariants as parsed
 
 -- the lexemes are this statement, and no other
 pub record IsOnlyStatement (ls : List Lexeme) (s : Statement) : Type 0 where

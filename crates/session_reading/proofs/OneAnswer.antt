@@ -12,12 +12,12 @@ use Rattle.session_grammar.proofs.OneReading.{bad_once, bad_no_statement, statem
 use Rattle.built_forms.specs.Forms.{begins_unbuilt}
 use Rattle.index_spellings.specs.Indices.{begins_bad_list}
 use Rattle.session_reading.specs.declared.fault.GrammarFault.{GrammarFault}
-use Rattle.session_reading.specs.declared.fault.GrammarFault.TheVariants as fault
 use Rattle.session_reading.specs.declared.parsing.Flaw.{Flaw}
-use Rattle.session_reading.specs.declared.parsing.Flaw.TheVariants as flaw
 use Rattle.session_reading.specs.Faults.{opens_past_64, begins_large, IsUnseenBefore, IsUnseen, IsFirstSeen}
 use Rattle.session_reading.specs.Parses.{reserved_name, IsFlawOfStatement, large_number, reserved, not_built, bad_list, IsFlawless, IsFlaw, too_deep, no_statement, in_statement, IsSound, fault_at, Answers, IsAnswer, Judges}
 use Rattle.session_reading.proofs.Seen.{unseen_more}
+use Rattle.session_reading.specs.declared.fault.GrammarFault.TheVariants as fault
+use Rattle.session_reading.specs.declared.parsing.Flaw.TheVariants as flaw
 
 -- The first place at which something is seen.
 

@@ -2,11 +2,8 @@
 use Rattle.std.specs.Prelude.{◌≡◌, ℕ, ◌+◌, ◌≤◌, true, false, List, [], ◌∷◌, ◌++◌, Option, Some, None, Result, Ok, Err, length, take, slice_get}
 use Rattle.session_grammar.specs.declared.expression.Statement.{Statement}
 use Rattle.session_reading.specs.declared.fault.GrammarFault.{GrammarFault}
-use Rattle.session_reading.specs.declared.fault.GrammarFault.TheVariants as fault
 use Rattle.session_tokens.specs.declared.lexeme.Lexeme.{Lexeme}
-use Rattle.session_tokens.specs.declared.lexeme.Lexeme.TheVariants as lex
 use Rattle.session_reading.specs.declared.parsing.Flaw.{Flaw}
-use Rattle.session_reading.specs.declared.parsing.Flaw.TheVariants as flaw
 use Rattle.session_tokens.specs.declared.token.Token.{Token}
 use Rattle.built_forms.specs.Forms.{begins_unbuilt}
 use Rattle.index_spellings.specs.Indices.{begins_bad_list}
@@ -16,6 +13,9 @@ use Rattle.session_tokens.specs.Lexemes.{lexemes_of}
 use Rattle.session_tokens.specs.Tokens.{AreTokens}
 use Rattle.session_tokens.specs.Words.{word_of}
 use Rattle.session_reading.specs.Faults.{opens_past_64, begins_large, IsUnseen, IsFirstSeen}
+use Rattle.session_reading.specs.declared.fault.GrammarFault.TheVariants as fault
+use Rattle.session_tokens.specs.declared.lexeme.Lexeme.TheVariants as lex
+use Rattle.session_reading.specs.declared.parsing.Flaw.TheVariants as flaw
 
 -- the reserved word, or the name of a basis, before `:=`
 abbrev pub reserved_name : List Lexeme → Option (List ℕ)

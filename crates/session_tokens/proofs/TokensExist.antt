@@ -2,9 +2,9 @@
 use Rattle.std.proofs.Common.{◌≡◌, ℕ, ◌+◌, ◌≤◌, inl, inr, zero, suc, Bool, true, false, cond, List, [], ◌∷◌, length, drop, refl, arith, length-drop}
 use Rattle.std.proofs.lemmas.Bool.{cases_Bool}
 use Rattle.session_tokens.specs.declared.token.Kind.{Kind}
-use Rattle.session_tokens.specs.declared.token.Kind.TheVariants as kind
 use Rattle.session_tokens.specs.declared.token.Token.{Token}
 use Rattle.session_tokens.specs.Tokens.{is_blank, first_token, token, AreTokens, at_end, blank, next}
+use Rattle.session_tokens.specs.declared.token.Kind.TheVariants as kind
 
 -- Of two tokens that are not empty, the chosen one is not.
 cond-positive : (c : Bool) (x y : Kind × ℕ) → 1 ≤ x.1 → 1 ≤ y.1 → 1 ≤ (cond c x y).1

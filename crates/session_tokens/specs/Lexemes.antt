@@ -2,13 +2,13 @@
 use Rattle.std.specs.Prelude.{ℕ, ◌+◌, ◌-◌, ◌*◌, ◌^◌, min, Bool, false, List, [], ◌∷◌, ◌==◌, ◌||◌, nat_eq, if◌then◌else◌, codes, take, drop, Option, Some, None}
 use Rattle.std.specs.Str.{bytes_eq}
 use Rattle.basis_names.specs.declared.bases.BasisId.{BasisId}
-use Rattle.session_tokens.specs.declared.lexeme.Linear.TheVariants as map
 use Rattle.session_tokens.specs.declared.lexeme.Lexeme.{Lexeme}
-use Rattle.session_tokens.specs.declared.lexeme.Lexeme.TheVariants as lex
 use Rattle.session_tokens.specs.declared.token.Kind.{Kind}
-use Rattle.session_tokens.specs.declared.token.Kind.TheVariants as kind
 use Rattle.session_tokens.specs.declared.token.Token.{Token}
 use Rattle.basis_names.specs.Bases.{bases, named}
+use Rattle.session_tokens.specs.declared.lexeme.Linear.TheVariants as map
+use Rattle.session_tokens.specs.declared.lexeme.Lexeme.TheVariants as lex
+use Rattle.session_tokens.specs.declared.token.Kind.TheVariants as kind
 
 -- the decimal value of digits that follow a number; 48 is the code of 0
 abbrev pub number_from : ℕ → List ℕ → ℕ

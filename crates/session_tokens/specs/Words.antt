@@ -2,8 +2,8 @@
 use Rattle.std.specs.Prelude.{ℕ, Bool, true, false, List, Option, Some, None, codes}
 use Rattle.basis_names.specs.Bases.{name_of}
 use Rattle.session_tokens.specs.declared.lexeme.Linear.{Linear}
-use Rattle.session_tokens.specs.declared.lexeme.Linear.TheVariants as map
 use Rattle.session_tokens.specs.declared.lexeme.Lexeme.{Lexeme}
+use Rattle.session_tokens.specs.declared.lexeme.Linear.TheVariants as map
 use Rattle.session_tokens.specs.declared.lexeme.Lexeme.TheVariants as lex
 
 -- the spelling of a linear function

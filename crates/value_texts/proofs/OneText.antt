@@ -7,9 +7,9 @@ use Rattle.hopf_num.specs.Fractions.{Ratio, fraction_text}
 use Rattle.hopf_num.proofs.CommonDivisors.{gcd-exists}
 use Rattle.hopf_num.proofs.LowestTerms.{IsFraction-quotients, ratio-quotients, fraction-unique}
 use Rattle.hopf_num.proofs.Ring.{*ℤ_assoc, *ℤ-pos_cancel}
-use Rattle.linear_combos.specs.Combos.{AreTerms, norm_of}
-use Rattle.linear_combos.specs.Readings.{Terms}
-use Rattle.hopf_laws.specs.declared.bases.BasisId.{BasisId}
+use Rattle.realisations.specs.Combinations.{AreTerms, norm_of}
+use Rattle.realisations.specs.Readings.{Terms}
+use Rattle.basis_names.specs.declared.bases.BasisId.{BasisId}
 use Rattle.hopf_laws.specs.Values.{Expansion, IsValue}
 use Rattle.hopf_laws.proofs.Scalars.{scalar_terms, norm-scalar}
 use Rattle.value_texts.specs.Text.{term_text, first_sign, later_sign, IsCoefficient, AreLaterTerms, AreTermsIn, IsTextOf, zero_text, none, one_more, scalar_text, terms_text}

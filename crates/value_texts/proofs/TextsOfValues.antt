@@ -3,9 +3,9 @@ use Rattle.std.proofs.Common.{◌≡◌, ℕ, ◌+◌, ◌<◌, ◌≤◌, List,
 use Rattle.std.specs.Prelude.{pos, codes}
 use Rattle.std.proofs.Math.ListN.{drop_of_length-le}
 use Rattle.hopf_num.specs.Fractions.{Ratio, fraction_text}
-use Rattle.linear_combos.specs.Combos.{AreTerms, term_at}
-use Rattle.linear_combos.specs.Readings.{Terms}
-use Rattle.hopf_laws.specs.declared.bases.BasisId.{BasisId}
+use Rattle.realisations.specs.Combinations.{AreTerms, term_at}
+use Rattle.realisations.specs.Readings.{Terms}
+use Rattle.basis_names.specs.declared.bases.BasisId.{BasisId}
 use Rattle.hopf_laws.specs.Values.{Expansion, IsValue}
 use Rattle.hopf_laws.proofs.Scalars.{scalar_terms, number_of-first, no_bases}
 use Rattle.value_texts.specs.Text.{term_text, first_sign, later_sign, IsCoefficient, AreLaterTerms, AreTermsIn, IsTextOf, zero_text, none, one_more, scalar_text, terms_text}

@@ -1,27 +1,16 @@
 -- The texts of basis elements and of values.
 use Rattle.std.specs.Prelude.{◌≡◌, ℕ, ℤ, pos, negsuc, ◌*ℤ◌, List, [], ◌∷◌, ◌++◌, ◌==◌, ◌&&◌, if◌then◌else◌, codes, unsigned_abs}
 use Rattle.std.specs.Fmt.{decimal}
-use Rattle.basis_names.specs.declared.bases.BasisId as names
-use Rattle.basis_names.specs.declared.bases.BasisId.TheVariants as named
 use Rattle.basis_names.specs.Bases.{name_of}
 use Rattle.index_spellings.specs.Compositions.{composition_text}
 use Rattle.hopf_num.specs.Fractions.{Ratio, IsFraction, over_text, fraction_text}
-use Rattle.linear_combos.specs.Readings.{Terms}
-use Rattle.hopf_laws.specs.declared.bases.BasisId.{BasisId}
-use Rattle.hopf_laws.specs.declared.bases.BasisId.TheVariants.{QsymM}
+use Rattle.realisations.specs.Readings.{Terms}
+use Rattle.basis_names.specs.declared.bases.BasisId.{BasisId}
 use Rattle.hopf_laws.specs.Values.{Expansion}
 
--- the basis of the language whose elements are these
-abbrev pub name_of_basis : BasisId → names.BasisId
-name_of_basis QsymM = named.QsymM
-
--- the spelling of an index: for a composition its parts
-abbrev pub spelled : BasisId → List ℕ → List ℕ
-spelled QsymM code = composition_text code
-
--- a basis element: the name of the basis, and the spelling of the index
+-- an element of a built basis: the name of the basis, and the spelling of the index, a composition
 abbrev pub index_text : BasisId → List ℕ → List ℕ
-index_text basis code = name_of (name_of_basis basis) ++ spelled basis code
+index_text basis code = name_of basis ++ composition_text code
 
 -- the basis elements of a key behind the first, each behind ` # `
 abbrev pub later_elements_text : List BasisId → List (List ℕ) → List ℕ

@@ -1,6 +1,7 @@
 //! Prints basis elements.
-ghost use Rattle.std.specs.Prelude.{◌≡◌, ◌++◌, OnOk, OnErr};
-ghost use Rattle.value_texts.specs.Text.{name_of_basis as language_basis, index_text};
+ghost use Rattle.std.specs.Prelude.{◌≡◌, ◌++◌, IsTrue, OnOk, OnErr};
+ghost use Rattle.built_bases.specs.Table.{is_built};
+ghost use Rattle.value_texts.specs.Text.{index_text};
 
 use basis_names::basis_name;
 use hopf_io::Bytes;
@@ -10,7 +11,7 @@ use index_spellings::append_composition;
 use linear_combos::Code;
 use std::alloc::Global;
 
-/// Appends a basis element: the name of the basis, and the spelling of the index.
+/// Appends an element of a built basis: the name of the basis, and the spelling of the index.
 ///
 /// After an error nothing was appended.
 pub fn print_index(
@@ -19,6 +20,7 @@ pub fn print_index(
     code: &Code,
     out: &mut Bytes,
 ) -> Result<(), OutOfMemory>
+    requires { IsTrue (is_built basis) }
     ensures ok { OnOk result (out.new ≡ out.old ++ index_text basis code.now) }
     ensures err { OnErr result (out.new ≡ out.old) }
 {
@@ -27,16 +29,7 @@ pub fn print_index(
     out.push_all(text.as_slice())
 }
 
-// The basis of the language whose elements these are.
-fn name_of_basis(basis: BasisId) -> basis_names::BasisId
-    ensures { result ≡ language_basis basis }
-{
-    match basis {
-        BasisId::QsymM => basis_names::BasisId::QsymM,
-    }
-}
-
-// Appends a basis element. After an error some of it may have been appended.
+// Appends an element of a built basis. After an error some of it may have been appended.
 pub(crate) fn append_index(
     alloc: Global,
     basis: BasisId,
@@ -45,8 +38,6 @@ pub(crate) fn append_index(
 ) -> Result<(), OutOfMemory>
     ensures { OnOk result (out.new ≡ out.old ++ index_text basis code.now) }
 {
-    out.push_all(basis_name(name_of_basis(basis)))?;
-    match basis {
-        BasisId::QsymM => append_composition(alloc, code, out),
-    }
+    out.push_all(basis_name(basis))?;
+    append_composition(alloc, code, out)
 }

@@ -1,7 +1,7 @@
 //! Prints values.
 ghost use Rattle.std.specs.Prelude.{◌≡◌, ◌++◌, ◌<◌, length, drop, OnOk, OnErr, IfOk};
 ghost use Rattle.hopf_num.specs.Fractions.{fraction_text};
-ghost use Rattle.linear_combos.specs.Combos.{term_at};
+ghost use Rattle.realisations.specs.Combinations.{term_at};
 ghost use Rattle.value_texts.specs.Text.{key_text, coefficient_text, term_text, first_sign, later_sign, IsCoefficient, IsTextOf, AppendsText};
 
 use crate::elements::append_index;

@@ -1,7 +1,7 @@
 use Rattle.std.proofs.Common.{rules, ◌∙◌, List, ◌≡◌, ◌+◌, ◌≤◌, ◌++◌, ◌∷◌, [], ℕ, length, get_or, arith, ap, subst, pos}
 use Rattle.std.proofs.lemmas.Result.{on_ok_weaker}
-use Rattle.linear_combos.specs.Readings.{Terms}
-use Rattle.linear_combos.specs.Combos.{AddsTerm}
+use Rattle.realisations.specs.Readings.{Terms}
+use Rattle.realisations.specs.Combinations.{AddsTerm}
 use Rattle.compositions.specs.QuasiShuffles.{AddsShuffles}
 use Rattle.compositions.proofs.Parts.{code_from_two, code_from_one_more, one_more, first_part, rest_parts, length-shuffles, adds_parts, sum_parts, sum_more, first-le-sum, first_slice, shuffles_left, shuffles_right, sum_of_none, adds_one}
 use Rattle.compositions.proofs.products.+add_quasi_shuffles.Goals as goal

@@ -1,5 +1,5 @@
 use Rattle.std.proofs.Common.{◌≡◌, ◌≤◌, [], length, arith, ◌∙◌}
-use Rattle.linear_combos.specs.Combos.{norm_of, IsCanonical}
+use Rattle.realisations.specs.Combinations.{norm_of, IsCanonical}
 use Rattle.compositions.specs.QuasiShuffles.{quasi_shuffles, AddsShuffles}
 use Rattle.compositions.proofs.Parts.{length-le-sum, shuffles_bound}
 use Rattle.compositions.proofs.Readings.{shuffles_answer}

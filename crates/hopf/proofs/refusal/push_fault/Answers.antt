@@ -1,8 +1,8 @@
 use Rattle.std.proofs.Common.{◌≡◌, ℕ, List, ◌++◌, codes, ap, sym, ◌∙◌}
 use Rattle.std.proofs.lemmas.Result.{on_ok_weaker}
 use Rattle.session_reading.specs.declared.fault.GrammarFault.{GrammarFault}
-use Rattle.session_reading.specs.declared.fault.GrammarFault.TheVariants as fault
 use Rattle.hopf.specs.Refusals.{text_of_fault}
+use Rattle.session_reading.specs.declared.fault.GrammarFault.TheVariants as fault
 use Rattle.hopf.proofs.refusal.push_fault.Goals as goal
 
 pub returns-in-ReservedName : goal.returns-in-ReservedName

@@ -1,8 +1,8 @@
 use Rattle.std.proofs.Common.{◌≡◌, ℕ, List, ◌++◌, codes, ap, sym, ◌∙◌}
 use Rattle.std.proofs.lemmas.Result.{on_ok_weaker}
 use Rattle.hopf.specs.declared.refusal.StatementRefusal.{StatementRefusal}
-use Rattle.hopf.specs.declared.refusal.StatementRefusal.TheVariants as refusal
 use Rattle.hopf.specs.Refusals.{text_of}
+use Rattle.hopf.specs.declared.refusal.StatementRefusal.TheVariants as refusal
 use Rattle.hopf.proofs.refusal.push_text.Goals as goal
 
 pub returns-in-UnknownName : goal.returns-in-UnknownName

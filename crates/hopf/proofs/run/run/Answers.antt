@@ -2,8 +2,8 @@ use Rattle.std.proofs.Common.{◌≡◌, ◌+◌, ◌<◌, true, false, arith, s
 use Rattle.hopf_io.specs.Faults.{Rose}
 use Rattle.hopf.specs.declared.reading.TheConstants.{INPUT_LIMIT}
 use Rattle.hopf.proofs.Completeness.{done_or_memory}
-use Rattle.hopf.proofs.run.run.Goals as goal
 use Rattle.hopf.proofs.run.run.Goals.{then-is_command, else-is_command}
+use Rattle.hopf.proofs.run.run.Goals as goal
 
 pub returns-clause-complete : goal.returns-clause-complete
 returns-clause-complete g c command no_read_fault no_write_fault within = elim c.if-is_command.branch [

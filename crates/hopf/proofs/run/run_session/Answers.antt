@@ -5,8 +5,8 @@ use Rattle.hopf.specs.declared.status.Status.TheVariants.{Ok, Refused, WriteFaul
 use Rattle.hopf.specs.Runs.{is_refused}
 use Rattle.hopf.specs.declared.session.SessionFault.TheVariants.{Write}
 use Rattle.hopf.proofs.Runs.{at_left, transcript_of_new, prefix_of_new, never_of_new, not_both}
-use Rattle.hopf.proofs.run.run_session.Goals as goal
 use Rattle.hopf.proofs.run.run_session.Goals.{in-Write, in-Memory}
+use Rattle.hopf.proofs.run.run_session.Goals as goal
 
 pub returns-in-Err-clause-prefix : goal.returns-in-Err-clause-prefix
 returns-in-Err-clause-prefix g c stopped =

@@ -1,6 +1,5 @@
 use Rattle.std.proofs.Common.{Ok, sym, subst}
 use Rattle.std.proofs.lemmas.Result.{IfOk-weaker}
-use Rattle.session_grammar.specs.declared.expression.Statement.TheVariants as s
 use Rattle.hopf.specs.declared.statement.Outcome.{Outcome}
 use Rattle.session_evaluation.specs.Evaluation.{Answer, Evaluates}
 use Rattle.hopf.specs.Outcomes.{Keeps, IsOutcomeOf, kept, not_kept}
@@ -9,6 +8,7 @@ use Rattle.hopf.specs.declared.refusal.StatementRefusal.{StatementRefusal}
 use Rattle.hopf.specs.declared.statement.Outcome.TheVariants.{Refused}
 use Rattle.hopf.specs.Sessions.{IsTold}
 use Rattle.hopf.proofs.Told.{refusal_told}
+use Rattle.session_grammar.specs.declared.expression.Statement.TheVariants as s
 use Rattle.hopf.proofs.statement.outcome_of_assignment.Goals as goal
 
 pub returns-in-Ok-clause-outcome : goal.returns-in-Ok-clause-outcome

@@ -1,13 +1,13 @@
 use Rattle.std.proofs.Common.{◌≡◌, ℕ, List, ◌++◌, Ok, sym, ◌∙◌, ap, subst}
 use Rattle.value_texts.specs.Text.{IsTextOf}
 use Rattle.session_evaluation.specs.Evaluation.{Answer, Evaluates}
-use Rattle.session_grammar.specs.declared.expression.Statement.TheVariants as s
 use Rattle.hopf.specs.Outcomes.{IsOutcomeOf, printed, not_printed}
 use Rattle.session_evaluation.proofs.Meanings.{meant}
 use Rattle.hopf.specs.declared.refusal.StatementRefusal.{StatementRefusal}
 use Rattle.hopf.specs.declared.statement.Outcome.TheVariants.{Refused}
 use Rattle.hopf.specs.Sessions.{IsTold}
 use Rattle.hopf.proofs.Told.{refusal_told}
+use Rattle.session_grammar.specs.declared.expression.Statement.TheVariants as s
 use Rattle.hopf.proofs.statement.outcome_of_print.Goals as goal
 
 pub returns-in_ok-print_value-in-Ok-clause-outcome : goal.returns-in_ok-print_value-in-Ok-clause-outcome

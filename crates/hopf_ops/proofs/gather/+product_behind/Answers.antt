@@ -1,7 +1,8 @@
 use Rattle.std.proofs.Common.{◌≡◌, ◌+◌, ◌<◌, ◌≤◌, ◌∷◌, length, drop, arith, rules}
 use Rattle.std.proofs.lemmas.List.{length-drop}
 use Rattle.std.proofs.lemmas.Result.{IfOk-weaker}
-use Rattle.linear_combos.specs.Combos.{Combination, IsCanonical, IsTensor}
+use Rattle.realisations.specs.Combinations.{Combination, IsCanonical}
+use Rattle.linear_combos.specs.Combos.{IsTensor}
 use Rattle.basis_routes.proofs.Degrees.{least_limit-small}
 use Rattle.hopf_ops.specs.Gathering.{IsProductOfKeys}
 use Rattle.hopf_ops.proofs.ProductsOfKeys.{other_factors, one_component, more_components, norms_room, factors_split, product_joined}

@@ -1,9 +1,9 @@
 use Rattle.std.proofs.Common.{◌≡◌, ◌<◌, length, subst, sym, ◌∙◌, ap, arith, to_z, of_z}
 use Rattle.std.proofs.Math.IntN.{◌*ℤ◌}
-use mir.Syntax.{w128}
 use Rattle.std.proofs.lemmas.Int.{to_z-of_z}
 use Rattle.hopf_ops.specs.Gathering.{AddsMultiple}
 use Rattle.hopf_ops.proofs.Gathering.{adds_none, multiple_room, multiple_more}
+use mir.Syntax.{w128}
 use Rattle.hopf_ops.proofs.gather.add_multiple.Goals as goal
 
 pub loop-at-init : goal.loop-at-init

@@ -1,11 +1,11 @@
 use Rattle.std.proofs.Common.{◌∙◌, arith}
 use Rattle.std.proofs.Math.IntN.{◌*ℤ◌}
-use mir.Syntax.{w128}
 use Rattle.std.proofs.lemmas.Int.{to_z-of_z}
 use Rattle.std.proofs.lemmas.Result.{on_ok_weaker}
-use Rattle.linear_combos.specs.Combos.{term_at}
+use Rattle.realisations.specs.Combinations.{term_at}
 use Rattle.hopf_ops.specs.Gathering.{IsProductOfKeys}
 use Rattle.hopf_ops.proofs.Gathering.{factor_keys, numerators_room, product_room, product_gathered}
+use mir.Syntax.{w128}
 use Rattle.hopf_ops.proofs.gather.add_product.Goals as goal
 
 pub times-num-requires : goal.times-num-requires

@@ -1,4 +1,4 @@
-use Rattle.linear_combos.specs.Combos.{IsCanonical}
+use Rattle.realisations.specs.Combinations.{IsCanonical}
 use Rattle.hopf_ops.proofs.Gathering.{none_gathered, all_gathered}
 use Rattle.hopf_ops.proofs.gather.gathered_products.Goals as goal
 

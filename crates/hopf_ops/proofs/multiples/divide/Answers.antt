@@ -6,7 +6,8 @@ use Rattle.std.proofs.lemmas.List.Elements.{All-cons}
 use Rattle.std.proofs.lemmas.Result.{IfOk-weaker}
 use Rattle.hopf_num.specs.Fractions.{Ratio, reciprocal}
 use Rattle.hopf_num.specs.Room.{product_rule}
-use Rattle.linear_combos.specs.Combos.{Combination, IsMultiple, norm_of}
+use Rattle.realisations.specs.Combinations.{Combination, norm_of}
+use Rattle.linear_combos.specs.Combos.{IsMultiple}
 use Rattle.linear_combos.specs.Faults.{TestsRoom}
 use Rattle.hopf_laws.specs.Values.{ratio_of}
 use Rattle.basis_routes.specs.declared.checks.Check.TheVariants.{Scalar, Nonzero}

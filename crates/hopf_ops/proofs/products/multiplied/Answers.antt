@@ -1,10 +1,14 @@
 use Rattle.std.proofs.Common.{◌≡◌, ◌≤◌, ◌+◌, ◌*◌, ◌^◌, ◌<◌, pos, length, sym, ap, subst, ◌∙◌, arith, rules}
-use Rattle.linear_combos.specs.Combos.{Combination, IsCanonical, IsMultiple}
-use Rattle.linear_combos.specs.Readings.{leaf, product, AgreeAt}
-use Rattle.hopf_laws.specs.Bases.{rows_of, least_limit}
+use Rattle.realisations.specs.Combinations.{Combination, IsCanonical}
+use Rattle.linear_combos.specs.Combos.{IsMultiple}
+use Rattle.realisations.specs.Readings.{leaf, product, AgreeAt}
+use Rattle.hopf_laws.specs.Bases.{AreBuilt, least_limit}
 use Rattle.hopf_laws.specs.Values.{Expansion, IsValue, greatest_degree, reading_of}
 use Rattle.hopf_ops.proofs.ProductsOfValues.{room_of_dens, room_of_norms, degree_over, gathered_value, gathered_reads}
 use Rattle.hopf_ops.proofs.products.multiplied.Goals as goal
+
+pub gathered_products-requires-clause-built : goal.gathered_products-requires-clause-built
+gathered_products-requires-clause-built c = subst (λ bs. AreBuilt bs) c.requires.left c.combo.ensures.value.built
 
 pub gathered_products-requires-clause-room : goal.gathered_products-requires-clause-room
 gathered_products-requires-clause-room c =
@@ -27,10 +31,11 @@ over-requires-2 c =
     let canonical : IsCanonical c.over.result.rank c.over.result.den c.over.result.terms = search rules in
     let a = c.combo.result.now in
     let b = c.combo-2.result.now in
-    let within : greatest_degree (rows_of c.args.bases) a.terms + greatest_degree (rows_of c.args.bases) b.terms ≤ least_limit c.args.bases =
+    let within : greatest_degree c.args.bases a.terms + greatest_degree c.args.bases b.terms ≤ least_limit c.args.bases =
     rw (c.combo.ensures.combination, c.combo-2.ensures.combination, degree_over c.args.a.now c.args.bases c.requires.left, degree_over c.args.b.now c.args.bases c.requires.right) c.requires.degree in
+    let built : AreBuilt c.args.bases = subst (λ bs. AreBuilt bs) c.requires.left c.combo.ensures.value.built in
     let short : length c.args.bases ≤ 3 = subst (λ bs. length bs ≤ 3) c.requires.left c.combo.ensures.value.short in
-    gathered_value c.args.bases _ _ a b c.in-Ok.product c.over.result short within c.in-Ok.ensures c.over.ensures canonical
+    gathered_value c.args.bases _ _ a b c.in-Ok.product c.over.result short built within c.in-Ok.ensures c.over.ensures canonical
 
 pub returns-clause-value : goal.returns-clause-value
 returns-clause-value c =
@@ -49,9 +54,9 @@ returns-clause-value c =
       over = ap (λ (v : Expansion). v.bases) c.over-2.ensures;
       reads = λ ps long.
           subst (λ (v : Expansion). AgreeAt (reading_of v) (product (reading_of a) (reading_of b)) ps) (sym c.over-2.ensures)
-          (subst (λ (v : Expansion). AgreeAt (leaf (rows_of bases) c.over.result.den c.over.result.terms) (product (reading_of v) (reading_of b)) ps)
+          (subst (λ (v : Expansion). AgreeAt (leaf bases c.over.result.den c.over.result.terms) (product (reading_of v) (reading_of b)) ps)
           (λ i. record { bases = sym c.requires.left i; combination = c.combo.ensures.combination i })
-          (subst (λ (v : Expansion). AgreeAt (leaf (rows_of bases) c.over.result.den c.over.result.terms) (product (leaf (rows_of bases) x.den x.terms) (reading_of v)) ps)
+          (subst (λ (v : Expansion). AgreeAt (leaf bases c.over.result.den c.over.result.terms) (product (leaf bases x.den x.terms) (reading_of v)) ps)
           (λ i. record { bases = sym c.requires.right i; combination = c.combo-2.ensures.combination i })
           (gathered_reads bases _ x y c.in-Ok.product c.over.result c.in-Ok.ensures over ps long)));
     }

@@ -48,14 +48,14 @@ multiplied-requires-clause-some c =
     let a = c.args.a.now in
     let b = c.args.b.now in
     let pass : All Passes (common_checks (degree_of_value a + degree_of_value b) a b) = search rules in
-    rw (c.in_ok-bases.ensures.value, joined-same a.bases b.bases (same_rank _ a b pass)) c.requires.some
+    rw (c.in_ok-bases.ensures.value, joined-same a.bases b.bases c.degree.ensures.value.built c.degree-2.ensures.value.built (same_rank _ a b pass)) c.requires.some
 
 pub multiplied-requires-clause-left : goal.multiplied-requires-clause-left
 multiplied-requires-clause-left c =
     let a = c.args.a.now in
     let b = c.args.b.now in
     let pass : All Passes (common_checks (degree_of_value a + degree_of_value b) a b) = search rules in
-    sym (c.in_ok-bases.ensures.value ∙ joined-same a.bases b.bases (same_rank _ a b pass))
+    sym (c.in_ok-bases.ensures.value ∙ joined-same a.bases b.bases c.degree.ensures.value.built c.degree-2.ensures.value.built (same_rank _ a b pass))
 
 pub multiplied-requires-clause-right : goal.multiplied-requires-clause-right
 multiplied-requires-clause-right c =
@@ -63,7 +63,7 @@ multiplied-requires-clause-right c =
     let b = c.args.b.now in
     let pass : All Passes (common_checks (degree_of_value a + degree_of_value b) a b) = search rules in
     let long = same_rank _ a b pass in
-    sym (c.in_ok-bases.ensures.value ∙ joined-same a.bases b.bases long ∙ same_bases a.bases b.bases long)
+    sym (c.in_ok-bases.ensures.value ∙ joined-same a.bases b.bases c.degree.ensures.value.built c.degree-2.ensures.value.built long ∙ same_bases a.bases b.bases c.degree.ensures.value.built c.degree-2.ensures.value.built long)
 
 pub multiplied-requires-clause-degree : goal.multiplied-requires-clause-degree
 multiplied-requires-clause-degree c =

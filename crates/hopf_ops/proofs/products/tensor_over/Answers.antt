@@ -2,9 +2,10 @@ use Rattle.std.proofs.Common.{◌++◌, subst}
 use Rattle.std.specs.Prelude.{IfOk}
 use Rattle.std.proofs.lemmas.Result.{IfOk-weaker}
 use Rattle.hopf_num.specs.Room.{product_rule}
-use Rattle.linear_combos.specs.Combos.{Combination, IsTensor, norm_of}
+use Rattle.realisations.specs.Combinations.{Combination, norm_of}
+use Rattle.linear_combos.specs.Combos.{IsTensor}
 use Rattle.linear_combos.specs.Faults.{TestsRoom}
-use Rattle.linear_combos.specs.Readings.{tensor}
+use Rattle.realisations.specs.Readings.{tensor}
 use Rattle.hopf_laws.specs.Values.{reading_of}
 use Rattle.hopf_ops.specs.Answers.{IsOver, IsAnswerOver}
 use Rattle.hopf_ops.proofs.Rooms.{answer_expands, answer_tests_room}

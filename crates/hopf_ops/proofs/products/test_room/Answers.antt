@@ -1,7 +1,7 @@
 use Rattle.std.proofs.Common.{[], ◌∷◌, rules}
 use Rattle.std.specs.Prelude.{All}
 use Rattle.hopf_num.specs.declared.room.Need.TheVariants.{Denominator, Product}
-use Rattle.linear_combos.specs.Combos.{norm_of}
+use Rattle.realisations.specs.Combinations.{norm_of}
 use Rattle.basis_routes.specs.declared.checks.Check.TheVariants.{Room}
 use Rattle.basis_routes.specs.Checks.{Passes, Tests}
 use Rattle.basis_routes.proofs.Rows.{tests_back}

@@ -4,7 +4,7 @@ use Rattle.std.proofs.lemmas.Result.{IfOk-weaker, err_from_is_err_and}
 use Rattle.hopf_num.specs.Divisors.{IsLcm}
 use Rattle.hopf_num.specs.Room.{sum_rule}
 use Rattle.linear_combos.specs.Faults.{TestsRoom}
-use Rattle.linear_combos.specs.Combos.{Combination, norm_of}
+use Rattle.realisations.specs.Combinations.{Combination, norm_of}
 use Rattle.hopf_laws.specs.Values.{degree_of_value}
 use Rattle.basis_routes.specs.Checks.{Passes, IsRefusalOf, room_checks}
 use Rattle.basis_routes.specs.Joins.{joined}
@@ -54,4 +54,4 @@ returns-clause-value c =
     let sum : IfOk c.plus_or_minus.result (IsSumOrDifference c.args.minus a.combination b.combination) = rw (← c.combo.ensures.combination, ← c.combo-2.ensures.combination) c.plus_or_minus.ensures.sum in
     answer_expands (IsSumOrDifference c.args.minus a.combination b.combination) (joined a.bases b.bases) (sum_or_difference_of c.args.minus a b) c.plus_or_minus.result c.over_bases.result
     (subst (λ bases. IsAnswerOver bases c.plus_or_minus.result c.over_bases.result) c.in_ok-bases.ensures.value c.over_bases.ensures.answer) sum c.over_bases.ensures.value
-    (λ s is ps long. sum_reads c.args.minus a b s (same_rank _ a b pass) is ps)
+    (λ s is ps long. sum_reads c.args.minus a b s c.combo.ensures.value c.combo-2.ensures.value (same_rank _ a b pass) is ps)

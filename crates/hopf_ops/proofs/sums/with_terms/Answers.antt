@@ -1,20 +1,30 @@
-use Rattle.std.proofs.Common.{◌≡◌, ℕ, ◌*◌, ◌/◌, max, sym, ap, subst, ◌∙◌}
+use Rattle.std.proofs.Common.{◌≡◌, ℕ, ◌*◌, ◌/◌, max, sym, ap, subst, ◌∙◌, rules}
 use Rattle.std.proofs.Math.Nat.{div-mul_cancel}
 use Rattle.std.specs.Prelude.{IfOk}
-use Rattle.std.proofs.lemmas.Result.{IfOk-weaker}
+use Rattle.std.proofs.lemmas.Result.{IfOk-weaker, err_from_is_err_and}
 use Rattle.hopf_num.specs.Divisors.{IsLcm}
 use Rattle.hopf_num.specs.Room.{sum_rule}
 use Rattle.linear_combos.specs.Faults.{TestsRoom}
-use Rattle.linear_combos.specs.Combos.{Combination, norm_of}
+use Rattle.realisations.specs.Combinations.{Combination, norm_of}
 use Rattle.hopf_laws.specs.Values.{degree_of_value}
-use Rattle.basis_routes.specs.Checks.{room_checks}
+use Rattle.basis_routes.specs.Checks.{IsRefusalOf, room_checks}
 use Rattle.basis_routes.specs.Joins.{joined}
-use Rattle.basis_routes.proofs.Rows.{tests_back}
+use Rattle.basis_routes.proofs.Rows.{refused_front, tests_back}
 use Rattle.hopf_ops.specs.Answers.{IsOver, IsAnswerOver, IsSumOrDifference}
 use Rattle.hopf_ops.specs.Operations.{common_checks, sum_or_difference_of}
 use Rattle.hopf_ops.proofs.Rooms.{answer_tests_room, answer_expands}
 use Rattle.hopf_ops.proofs.SumsOfValues.{same_rank, sum_over, sum_reads}
 use Rattle.hopf_ops.proofs.sums.with_terms.Goals as goal
+
+pub returns-in_err-bases-clause-checks : goal.returns-in_err-bases-clause-checks
+returns-in_err-bases-clause-checks c = λ m is.
+    let p = err_from_is_err_and c.from_residual.result c.from_residual.ensures.1 in
+    let a = c.args.a in
+    let b = c.args.b.now in
+    let common = common_checks (max (degree_of_value a) (degree_of_value b)) a b in
+    let needs = sum_rule m a.combination.den b.combination.den (norm_of a.combination.terms) (norm_of b.combination.terms) in
+    let refused : IsRefusalOf common c.in_err-bases.field-0.0 = search rules in
+    rw (p.1, p.2) (refused_front common (room_checks needs) c.in_err-bases.field-0.0 refused)
 
 pub with_terms_of-requires-clause-rank : goal.with_terms_of-requires-clause-rank
 with_terms_of-requires-clause-rank c =
@@ -58,4 +68,4 @@ returns-clause-value c =
     let sum : IfOk c.with_terms_of.result (IsSumOrDifference c.args.minus a.combination b.combination) = rw (← c.into_parts-combo.ensures.combination, ← c.combo.ensures.combination) c.with_terms_of.ensures.sum in
     answer_expands (IsSumOrDifference c.args.minus a.combination b.combination) (joined a.bases b.bases) (sum_or_difference_of c.args.minus a b) c.with_terms_of.result c.over_bases.result
     (subst (λ bases. IsAnswerOver bases c.with_terms_of.result c.over_bases.result) c.in_ok-bases.ensures.value c.over_bases.ensures.answer) sum c.over_bases.ensures.value
-    (λ s is ps long. sum_reads c.args.minus a b s (same_rank _ a b c.in_ok-bases.ensures.checks) is ps)
+    (λ s is ps long. sum_reads c.args.minus a b s c.into_parts-combo.ensures.value c.combo.ensures.value (same_rank _ a b c.in_ok-bases.ensures.checks) is ps)

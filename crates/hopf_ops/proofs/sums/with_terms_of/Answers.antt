@@ -1,11 +1,12 @@
 use Rattle.std.proofs.Common.{◌≡◌, ◌∙◌, ap, sym, subst, pos, length, arith, rules}
-use mir.Syntax.{w128}
 use Rattle.std.proofs.lemmas.Int.{to_z-of_z}
 use Rattle.hopf_num.specs.Room.{HasRoom}
 use Rattle.hopf_num.specs.declared.room.Need.TheVariants.{Sum}
-use Rattle.linear_combos.specs.Combos.{Combination, IsMultiple, norm_of}
+use Rattle.realisations.specs.Combinations.{Combination, norm_of}
+use Rattle.linear_combos.specs.Combos.{IsMultiple}
 use Rattle.hopf_ops.specs.Gathering.{AddsMultiple}
 use Rattle.hopf_ops.proofs.SumsInPlace.{factor-le, is_sum_of_terms, passes_test, room_of_sign, rule_has_room, rule_lacks_room}
+use mir.Syntax.{w128}
 use Rattle.hopf_ops.proofs.sums.with_terms_of.Goals as goal
 
 pub returns-then-is_err-clause-room : goal.returns-then-is_err-clause-room

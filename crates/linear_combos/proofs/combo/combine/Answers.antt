@@ -1,8 +1,8 @@
 use Rattle.std.proofs.Common.{◌≡◌, ap, subst, ◌∙◌}
-use mir.Syntax.{w128}
 use Rattle.std.proofs.lemmas.Int.{to_z-of_z}
 use Rattle.linear_combos.specs.Merges.{IsOver}
 use Rattle.linear_combos.proofs.Merging.{IsCombined-merged}
+use mir.Syntax.{w128}
 use Rattle.linear_combos.proofs.combo.combine.Goals as goal
 
 pub returns : goal.returns

@@ -1,12 +1,12 @@
 use Rattle.std.proofs.Common.{◌≡◌, ◌<◌, ◌^◌, [], pos, take, unsigned_abs, subst, sym, ◌∙◌, ap, arith}
-use mir.Syntax.{w128}
 use Rattle.std.specs.Int.{IsGcd}
 use Rattle.std.proofs.lemmas.Int.{to_z-of_z, fits_signed_from_abs}
 use Rattle.std.proofs.lemmas.List.{get_or_read, take_more}
 use Rattle.std.proofs.lemmas.List.Sums.{get_or-le-sum_by}
-use Rattle.linear_combos.specs.Combos.{term_at}
+use Rattle.realisations.specs.Combinations.{term_at}
 use Rattle.linear_combos.specs.Merges.{IsCommon}
 use Rattle.linear_combos.proofs.LowestCombos.{IsCommon-push, IsCommon-front}
+use mir.Syntax.{w128}
 use Rattle.linear_combos.proofs.lowest.common_divisor.Goals as goal
 
 pub loop-term-preserved : goal.loop-term-preserved

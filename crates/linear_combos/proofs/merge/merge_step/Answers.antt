@@ -1,12 +1,13 @@
 use Rattle.std.proofs.Common.{[], length, arith, subst, sym, ◌∙◌, ap, to_z, of_z}
 use Rattle.std.proofs.Math.IntN.{pos, ◌+ℤ◌, ◌*ℤ◌}
-use mir.Syntax.{w128}
 use Rattle.std.proofs.lemmas.Int.{to_z-of_z}
 use Rattle.std.proofs.lemmas.List.{get_or_default}
 use Rattle.hopf_num.proofs.SumsOfProducts.{abs_sum}
-use Rattle.linear_combos.specs.Combos.{term_at, IsGapFor}
+use Rattle.realisations.specs.Combinations.{term_at}
+use Rattle.linear_combos.specs.Combos.{IsGapFor}
 use Rattle.linear_combos.proofs.Numerals.{scaled_is}
 use Rattle.linear_combos.proofs.Merging.{IsMerged-turned, left_gap, left_room, left_added, both_room, both_added}
+use mir.Syntax.{w128}
 use Rattle.linear_combos.proofs.merge.merge_step.Goals as goal
 
 pub scaled-num-requires-clause-room : goal.scaled-num-requires-clause-room

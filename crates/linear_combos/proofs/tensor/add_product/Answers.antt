@@ -1,9 +1,10 @@
 use Rattle.std.proofs.Common.{◌++◌, length, ◌∙◌, ap, subst, sym, arith}
-use mir.Syntax.{w128}
 use Rattle.std.proofs.lemmas.Int.{to_z-of_z}
 use Rattle.std.proofs.lemmas.Result.{on_ok_weaker}
-use Rattle.linear_combos.specs.Combos.{term_at, IsGapFor}
+use Rattle.realisations.specs.Combinations.{term_at}
+use Rattle.linear_combos.specs.Combos.{IsGapFor}
 use Rattle.linear_combos.proofs.Tensors.{product_gap, product_room, product_added}
+use mir.Syntax.{w128}
 use Rattle.linear_combos.proofs.tensor.add_product.Goals as goal
 
 pub product_at-num-requires-clause-room : goal.product_at-num-requires-clause-room

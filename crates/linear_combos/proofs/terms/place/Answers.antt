@@ -1,7 +1,8 @@
 use Rattle.std.proofs.Common.{◌≡◌, ◌+◌, ◌-◌, ◌/◌, ◌<◌, [], pos, get_or, length, sym, ◌∙◌, ap, arith}
 use Rattle.std.proofs.lemmas.List.{get_or_default}
-use Rattle.linear_combos.specs.Combos.{key_cmp, term_at}
-use Rattle.linear_combos.proofs.Place.{smaller_up_to, greater_from, same_key}
+use Rattle.realisations.specs.Combinations.{key_cmp, term_at}
+use Rattle.linear_combos.proofs.Place.{smaller_up_to, greater_from}
+use Rattle.realisations.proofs.KeyOrders.{same_key}
 use Rattle.linear_combos.proofs.terms.place.Goals as goal
 
 pub loop-low-preserved-in-Less : goal.loop-low-preserved-in-Less

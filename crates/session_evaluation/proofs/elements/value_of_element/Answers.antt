@@ -1,12 +1,9 @@
-use Rattle.std.proofs.Common.{sym, ◌∙◌}
+use Rattle.std.proofs.Common.{◌≡◌, Some, sym, ◌∙◌, rules}
 use Rattle.session_evaluation.specs.Elements.{Spells}
 use Rattle.session_evaluation.proofs.SpelledElements.{spelled_within}
 use Rattle.session_evaluation.proofs.elements.value_of_element.Goals as goal
 
 pub element-requires : goal.element-requires
 element-requires c =
-    let spells : Spells c.args.name c.args.items.now c.in-Some-Some.basis c.in-Some-Some.code = record {
-      built = sym c.basis_of.ensures ∙ c.in-Some-Some.is-0;
-      spelled = sym c.index_in.ensures ∙ c.in-Some-Some.is-1;
-    } in
-    spelled_within c.args.name c.args.items.now c.in-Some-Some.basis c.in-Some-Some.code spells
+    let spells : Spells c.args.basis c.args.items.now c.in-Some.code = search rules in
+    spelled_within c.args.basis c.args.items.now c.in-Some.code spells

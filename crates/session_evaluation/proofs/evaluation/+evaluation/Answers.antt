@@ -3,7 +3,6 @@ use Rattle.std.proofs.lemmas.List.{nil_from_length, length-drop}
 use Rattle.std.proofs.lemmas.Result.{err_from_is_err_and}
 use Rattle.session_tokens.specs.declared.lexeme.Lexeme.{Lexeme}
 use Rattle.session_grammar.specs.declared.expression.Expr.{Expr}
-use Rattle.session_grammar.specs.declared.expression.Expr.TheVariants as e
 use Rattle.session_grammar.specs.declared.expression.Factor.{Factor}
 use Rattle.session_grammar.specs.declared.expression.Signed.{Signed}
 use Rattle.session_evaluation.specs.declared.operator.Operator.TheVariants.{Plus, Minus, Hash, Times, Over}
@@ -11,9 +10,10 @@ use Rattle.session_evaluation.specs.Evaluation.{IsElement, OrMemory, Steps, step
 use Rattle.session_grammar.proofs.expression.Expr.TheLaws.{the_size}
 use Rattle.session_grammar.proofs.expression.Factor.TheLaws.{the_size as factor_size}
 use Rattle.session_grammar.proofs.expression.Signed.TheLaws.{the_size as signed_size}
-use denote.Param.Weighed.{at_most}
 use Rattle.session_evaluation.proofs.BuiltForms.{built_sum-inv, built_tensor-inv, built_product-inv}
 use Rattle.session_evaluation.proofs.EvaluationSteps.{found, lost, renamed, number_evaluates, element_evaluates, takes_step, refused_step, Remains, remains_built, remains_step, remains_refused, remains_done, sum_first, tensor_first, product_first, sum_refused, tensor_refused, product_refused, sum_remains, tensor_remains, product_remains, sum_steps, tensor_steps, product_steps}
+use Rattle.session_grammar.specs.declared.expression.Expr.TheVariants as e
+use denote.Param.Weighed.{at_most}
 use Rattle.session_evaluation.proofs.evaluation.+evaluation.Goals as goal
 
 pub apply-returns-in-Some : goal.apply-returns-in-Some

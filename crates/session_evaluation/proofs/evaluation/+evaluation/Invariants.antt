@@ -1,7 +1,7 @@
 use Rattle.std.proofs.Common.{drop}
-use Rattle.session_grammar.specs.declared.expression.Expr.TheVariants as e
 use Rattle.session_evaluation.specs.Evaluation.{steps_of_sum, steps_of_tensor, steps_of_product}
 use Rattle.session_evaluation.proofs.EvaluationSteps.{Remains}
+use Rattle.session_grammar.specs.declared.expression.Expr.TheVariants as e
 use Rattle.session_evaluation.proofs.evaluation.+evaluation.Given as goal
 
 abbrev pub invariant-value_of_sum-loop-i : goal.invariant-value_of_sum-loop-i

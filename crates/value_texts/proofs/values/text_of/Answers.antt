@@ -1,7 +1,7 @@
 use Rattle.std.proofs.Common.{◌≡◌, ◌≤◌, ◌<◌, [], ◌++◌, length, arith, append_assoc, append-nil, subst, sym, ◌∙◌, ap}
 use Rattle.std.specs.Int.{w128}
 use Rattle.std.proofs.lemmas.Int.{to_z-of_z}
-use Rattle.linear_combos.specs.Combos.{term_at}
+use Rattle.realisations.specs.Combinations.{term_at}
 use Rattle.value_texts.specs.Text.{IsTextOf, term_text, later_sign}
 use Rattle.value_texts.proofs.TextsOfValues.{first_term, next_term, no_term, zero_text_of, scalar_text_of}
 use Rattle.value_texts.proofs.values.text_of.Goals as goal

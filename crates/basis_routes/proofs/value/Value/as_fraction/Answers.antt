@@ -1,12 +1,12 @@
 use Rattle.std.proofs.Common.{◌≡◌, ℤ, pos, length, ap, sym, subst, arith, ◌∙◌, to_z, of_z, ◌*ℤ◌}
 use Rattle.std.specs.Int.{w128}
 use Rattle.std.proofs.lemmas.Int.{to_z-of_z}
-use Rattle.linear_combos.specs.Combos.{AreTerms}
+use Rattle.realisations.specs.Combinations.{AreTerms}
 use Rattle.hopf_num.proofs.LowestTerms.{fraction-unique}
 use Rattle.hopf_laws.specs.Values.{ratio_of}
 use Rattle.hopf_laws.proofs.Scalars.{number_of, number_of-first, number_of-none, fraction-scalar, ratio-scalar}
-use Rattle.basis_routes.proofs.value.Value.as_fraction.Goals as goal
 use Rattle.basis_routes.proofs.value.Value.as_fraction.Goals.{then-len-eq0, else-len-eq0}
+use Rattle.basis_routes.proofs.value.Value.as_fraction.Goals as goal
 
 pub returns : goal.returns
 returns c =

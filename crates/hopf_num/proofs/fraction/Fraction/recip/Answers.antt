@@ -2,8 +2,8 @@ use Rattle.std.proofs.Common.{◌≡◌, ◌≢◌, pos, unsigned_abs, ap, subst
 use Rattle.std.specs.Int.{w128}
 use Rattle.std.proofs.lemmas.Int.{to_z-of_z, to_z_pos, fits_signed_from_abs}
 use Rattle.hopf_num.proofs.LowestTerms.{abs-neg, IsFraction-turned}
-use Rattle.hopf_num.proofs.fraction.Fraction.recip.Goals as goal
 use Rattle.hopf_num.proofs.fraction.Fraction.recip.Goals.{then-self-lt0, else-self-lt0}
+use Rattle.hopf_num.proofs.fraction.Fraction.recip.Goals as goal
 
 pub invariant_of-result : goal.invariant_of-result
 invariant_of-result c =

@@ -1,8 +1,8 @@
 use Rattle.std.proofs.Common.{◌≡◌, ◌≤◌, length, ap, ◌∙◌}
-use mir.Syntax.{w128}
 use Rattle.std.specs.List.{insert}
 use Rattle.std.proofs.lemmas.Int.{to_z-of_z}
 use Rattle.linear_combos.proofs.Edits.{adds-insert}
+use mir.Syntax.{w128}
 use Rattle.linear_combos.proofs.combo.Combo.add_with_room.Goals as goal
 
 pub returns-in_ok-put_in-in-Err-clause-adds : goal.returns-in_ok-put_in-in-Err-clause-adds

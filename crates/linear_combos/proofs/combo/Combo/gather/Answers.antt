@@ -1,15 +1,15 @@
 use Rattle.std.proofs.Common.{refl, ◌≡◌, ◌≢◌, ◌+◌, ◌^◌, ◌<◌, [], length, pos, arith, unsigned_abs, sym, ◌∙◌, ap}
 use Rattle.std.proofs.Math.IntN.{◌+ℤ◌}
-use mir.Syntax.{w128}
-use mir.Val.{SFits, to_z, of_z}
 use Rattle.std.proofs.lemmas.Int.{to_z-of_z}
 use Rattle.std.proofs.lemmas.List.{get_or_default}
 use Rattle.std.proofs.lemmas.List.Sums.{sum_by-remove, sum_by-set, get_or-le-sum_by}
-use Rattle.linear_combos.specs.Combos.{norm_of, term_at}
+use Rattle.realisations.specs.Combinations.{norm_of, term_at}
 use Rattle.hopf_num.proofs.SumsOfProducts.{abs_sum}
 use Rattle.linear_combos.proofs.Numerals.{sum_is, fits_abs, part_is}
 use Rattle.linear_combos.proofs.Edits.{remove_terms, set_terms, lowest_one, keys-remove, keys-set}
 use Rattle.linear_combos.proofs.Weights.{weighed-remove, weighed-set}
+use mir.Syntax.{w128}
+use mir.Val.{SFits, to_z, of_z}
 use Rattle.linear_combos.proofs.combo.Combo.gather.Goals as goal
 
 pub invariant_of-self : goal.invariant_of-self

@@ -1,5 +1,5 @@
 use Rattle.std.proofs.Common.{◌/◌, subst}
-use Rattle.linear_combos.specs.Combos.{Combination}
+use Rattle.realisations.specs.Combinations.{Combination}
 use Rattle.linear_combos.specs.Merges.{IsOver}
 use Rattle.linear_combos.proofs.LowestCombos.{common-positive, common-small, IsCanonical-quotients, IsOver-quotients}
 use Rattle.linear_combos.proofs.combo.Combo.lowest.Goals as goal

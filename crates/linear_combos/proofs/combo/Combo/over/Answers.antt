@@ -1,5 +1,6 @@
 use Rattle.std.proofs.Common.{subst, pos}
-use Rattle.linear_combos.specs.Combos.{Combination, IsMultiple}
+use Rattle.realisations.specs.Combinations.{Combination}
+use Rattle.linear_combos.specs.Combos.{IsMultiple}
 use Rattle.linear_combos.proofs.SumsOfCombos.{IsMultiple-over}
 use Rattle.linear_combos.proofs.combo.Combo.over.Goals as goal
 

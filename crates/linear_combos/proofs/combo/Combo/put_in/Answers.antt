@@ -1,10 +1,11 @@
 use Rattle.std.proofs.Common.{◌≡◌, ◌+◌, ◌^◌, ◌<◌, arith, refl, unsigned_abs, sym, ◌∙◌, ap}
-use mir.Syntax.{w128}
 use Rattle.std.specs.List.{insert}
 use Rattle.std.proofs.lemmas.Int.{to_z-of_z}
 use Rattle.std.proofs.lemmas.List.Sums.{sum_by-insert}
-use Rattle.linear_combos.specs.Combos.{norm_of, IsGapFor}
+use Rattle.realisations.specs.Combinations.{norm_of}
+use Rattle.linear_combos.specs.Combos.{IsGapFor}
 use Rattle.linear_combos.proofs.Edits.{insert_terms, lowest_one}
+use mir.Syntax.{w128}
 use Rattle.linear_combos.proofs.combo.Combo.put_in.Goals as goal
 
 pub invariant_of-self-2 : goal.invariant_of-self-2

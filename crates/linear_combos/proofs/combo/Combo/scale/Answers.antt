@@ -1,11 +1,11 @@
 use Rattle.std.proofs.Common.{◌≡◌, ◌*◌, [], unsigned_abs, subst, ◌∙◌, ap, to_z, of_z, pos}
-use mir.Syntax.{w128}
 use Rattle.std.proofs.lemmas.Int.{to_z-of_z}
 use Rattle.std.specs.Prelude.{All}
 use Rattle.hopf_num.specs.Room.{HasRoom, product_rule}
-use Rattle.linear_combos.specs.Combos.{Combination, norm_of}
+use Rattle.realisations.specs.Combinations.{Combination, norm_of}
 use Rattle.linear_combos.specs.Merges.{IsCombined}
 use Rattle.linear_combos.proofs.SumsOfCombos.{IsMultiple-combined}
+use mir.Syntax.{w128}
 use Rattle.linear_combos.proofs.combo.Combo.scale.Goals as goal
 
 pub returns-in-Ok-clause-multiple : goal.returns-in-Ok-clause-multiple

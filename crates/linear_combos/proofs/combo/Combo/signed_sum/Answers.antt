@@ -6,7 +6,7 @@ use Rattle.hopf_num.specs.declared.room.Need.TheVariants.{CommonDenominator, Sum
 use Rattle.hopf_num.proofs.CommonDivisors.{common_room}
 use Rattle.hopf_num.proofs.RoomOfSums.{same_lcm}
 use Rattle.linear_combos.specs.declared.combo.ComboFault.TheVariants.{TooLarge}
-use Rattle.linear_combos.specs.Combos.{Combination, norm_of}
+use Rattle.realisations.specs.Combinations.{Combination, norm_of}
 use Rattle.linear_combos.specs.Faults.{TestsRoom}
 use Rattle.linear_combos.proofs.RoomOfCombos.{fault_first, tests_later}
 use Rattle.linear_combos.proofs.combo.Combo.signed_sum.Goals as goal

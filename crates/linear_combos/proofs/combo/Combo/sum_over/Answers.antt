@@ -1,11 +1,11 @@
 use Rattle.std.proofs.Common.{◌≡◌, ◌*◌, ◌/◌, ◌≤◌, ◌∙◌, ap, arith, subst, pos, ◌*ℤ◌, unsigned_abs}
-use mir.Syntax.{w128}
 use Rattle.std.proofs.Math.Nat.{div-le_self, mul-one}
 use Rattle.std.proofs.lemmas.Int.{to_z-of_z, to_z_pos, unsigned_abs-mul}
 use Rattle.hopf_num.proofs.CommonDivisors.{lcm-pos}
-use Rattle.linear_combos.specs.Combos.{Combination}
+use Rattle.realisations.specs.Combinations.{Combination}
 use Rattle.linear_combos.specs.Merges.{IsCombined}
 use Rattle.linear_combos.proofs.SumsOfCombos.{IsSignedSum-combined}
+use mir.Syntax.{w128}
 use Rattle.linear_combos.proofs.combo.Combo.sum_over.Goals as goal
 
 pub combine-sum-requires-clause-positive : goal.combine-sum-requires-clause-positive

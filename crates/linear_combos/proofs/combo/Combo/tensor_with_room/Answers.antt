@@ -1,5 +1,5 @@
 use Rattle.std.proofs.Common.{◌≡◌, ◌+◌, ◌*◌, subst, ◌∙◌, ap}
-use Rattle.linear_combos.specs.Combos.{Combination}
+use Rattle.realisations.specs.Combinations.{Combination}
 use Rattle.linear_combos.specs.Merges.{IsOver}
 use Rattle.linear_combos.proofs.Tensors.{IsTensor-over}
 use Rattle.linear_combos.proofs.combo.Combo.tensor_with_room.Goals as goal

@@ -1,9 +1,10 @@
 use Rattle.std.proofs.Common.{◌≡◌, ◌+◌, ◌^◌, ◌<◌, [], ◌∷◌, ◌++◌, length, unsigned_abs, subst, sym, ◌∙◌, ap}
-use mir.Syntax.{w128}
 use Rattle.std.specs.Int.{IsGcd}
 use Rattle.std.proofs.lemmas.Int.{to_z-of_z}
-use Rattle.linear_combos.specs.Combos.{norm_of, IsGapFor}
+use Rattle.realisations.specs.Combinations.{norm_of}
+use Rattle.linear_combos.specs.Combos.{IsGapFor}
 use Rattle.linear_combos.proofs.LowestCombos.{IsUnreduced-push}
+use mir.Syntax.{w128}
 use Rattle.linear_combos.proofs.lowest.Unreduced.put_last.Goals as goal
 
 pub invariant_of-self-2 : goal.invariant_of-self-2
