@@ -2,17 +2,13 @@
 use Rattle.std.proofs.Common.{◌≡◌, ◌≢◌, ℕ, zero, suc, ◌≤◌, inl, inr, ℤ, pos, negsuc, unsigned_abs, Bool, true, false, if◌then◌else◌, Some, None, Ok, Err, List, [], ◌∷◌, All, length, refl, sym, ◌∙◌, ap, subst, arith}
 use Rattle.std.proofs.Math.Nat.{mul-pos}
 use Rattle.hopf_num.proofs.RoomOfSums.{same_lcm}
-use Rattle.realisations.specs.Combinations.{HasKey}
-use Rattle.realisations.specs.Indices.{AreIndices}
-use Rattle.realisations.specs.Readings.{Reading, AgreeAt, leaf, denominator, product, tensor}
-use Rattle.realisations.proofs.Uniqueness.{unique_reading}
+use Rattle.realisations.specs.Readings.{Reading, denominator, product, tensor}
 use Rattle.basis_names.specs.declared.bases.BasisId.{BasisId}
 use Rattle.session_tokens.specs.declared.lexeme.Lexeme.{Lexeme}
 use Rattle.session_evaluation.specs.Elements.{Spells}
 use Rattle.session_evaluation.proofs.SpelledElements.{spells_once}
-use Rattle.hopf_laws.specs.Bases.{AreBuilt as HaveBuilt}
-use Rattle.hopf_laws.proofs.Uniqueness.{classes_of}
-use Rattle.hopf_laws.specs.Values.{Expansion, Expands, reading_of, ratio_of}
+use Rattle.hopf_laws.proofs.Uniqueness.{expands_once}
+use Rattle.hopf_laws.specs.Values.{Expansion, reading_of, ratio_of}
 use Rattle.basis_routes.specs.declared.checks.Check.{Check}
 use Rattle.basis_routes.specs.declared.checks.Check.TheVariants.{Nonzero}
 use Rattle.basis_routes.specs.declared.refusal.Refusal.{Refusal}
@@ -46,19 +42,6 @@ pub none_fails : (checks : List Check) (r : Refusal) → All Passes checks → I
 none_fails [] r all h = h
 none_fails (check ∷ checks) r all (inl (is, failed)) = failed (all 0 check (omega arith))
 none_fails (check ∷ checks) r all (inr (passes, later)) = none_fails checks r (λ k d within. all (suc k) d (omega (arith, within))) later
-
--- Values over the same bases that read alike are equal.
-pub expands_once : (bases : List BasisId) (r : Reading) (v w : Expansion) → 1 ≤ denominator r → Expands bases r v → Expands bases r w → v ≡ w
-expands_once bases r v w positive h k =
-    let over : v.bases ≡ w.bases = h.over ∙ sym k.over in
-    let same : v.combination ≡ w.combination =
-    unique_reading bases r v.combination w.combination (classes_of bases (subst (λ bs. HaveBuilt bs) h.over h.value.built)) h.value.canonical k.value.canonical
-    (h.value.rank ∙ ap length h.over) (k.value.rank ∙ ap length k.over) positive
-    (subst (λ bs. (key : List (List ℕ)) → HasKey v.combination.terms key → AreIndices bs key) h.over h.value.indices)
-    (subst (λ bs. (key : List (List ℕ)) → HasKey w.combination.terms key → AreIndices bs key) k.over k.value.indices)
-    (λ ps long. subst (λ bs. AgreeAt (leaf bs v.combination.den v.combination.terms) r ps) h.over (h.reads ps (long)))
-    (λ ps long. subst (λ bs. AgreeAt (leaf bs w.combination.den w.combination.terms) r ps) k.over (k.reads ps (long))) in
-    λ i. record { bases = over i; combination = same i }
 
 -- One operation.
 

@@ -20,7 +20,8 @@ use Rattle.session_evaluation.specs.Meaning.{number, combined, signed, Means, nu
 use Rattle.session_evaluation.proofs.EvaluationsExist.{evaluated_value}
 use Rattle.session_evaluation.proofs.Meanings.{Alike, answer_meant}
 use Rattle.session_evaluation.proofs.SpelledElements.{spells_once}
-use Rattle.session_evaluation.proofs.OneEvaluation.{expands_once, open-number, open-element, open-named, open-sum, open-tensor, open-product}
+use Rattle.hopf_laws.proofs.Uniqueness.{expands_once}
+use Rattle.session_evaluation.proofs.OneEvaluation.{open-number, open-element, open-named, open-sum, open-tensor, open-product}
 use Rattle.session_grammar.specs.declared.expression.Expr.TheOpen as form
 
 -- what an expression means, at its outermost form
