@@ -1,7 +1,8 @@
 //! Lists of bases.
-ghost use Rattle.std.specs.Prelude.{◌≡◌, ◌+◌, ◌≤◌, ◌-◌, ◌++◌, ℕ, List, length, slice_index_or, IfOk};
+ghost use Rattle.std.specs.Prelude.{◌≡◌, ◌≢◌, ◌+◌, ◌≤◌, ◌-◌, ◌++◌, ℕ, List, length, slice_index_or, IfOk, IfErr};
 ghost use Rattle.realisations.specs.Indices.{total_degree};
 ghost use Rattle.hopf_laws.specs.Bases.{least_limit};
+ghost use Rattle.basis_routes.specs.declared.refusal.Refusal.TheVariants.{Memory};
 ghost use Rattle.basis_routes.specs.Checks.{Tests};
 ghost use Rattle.basis_routes.specs.Joins.{joined, join_checks};
 ghost use Rattle.basis_routes.specs.Lists.{bases_of};
@@ -147,10 +148,11 @@ impl Bases {
     }
 
     /// The joins of two lists of one length, component by component. `Mixed` comes exactly where two
-    /// components have none, and tells the algebras of the first such two.
+    /// components have none, and tells the algebras of the first such two. It takes no memory.
     pub fn joined(&self, other: &Bases) -> Result<Bases, Refusal>
         requires { length self.now ≡ length other.now }
         ensures checks { Tests (join_checks self.now other.now) result }
+        ensures outright { IfErr result (λ refusal. refusal ≢ Memory) }
         ensures value { IfOk result (λ bases. bases ≡ joined self.now other.now) }
     {
         let held = match (self.held, other.held) {

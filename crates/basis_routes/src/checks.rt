@@ -1,5 +1,6 @@
 //! What operations check of their operands before they compute.
-ghost use Rattle.std.specs.Prelude.{◌≡◌, [], ◌∷◌, if◌then◌else◌, Ok, Err};
+ghost use Rattle.std.specs.Prelude.{◌≡◌, ◌≢◌, [], ◌∷◌, if◌then◌else◌, Ok, Err, IfErr};
+ghost use Rattle.basis_routes.specs.declared.refusal.Refusal.TheVariants.{Memory};
 ghost use Rattle.basis_routes.specs.Checks.{IsCheck, Tests};
 
 use crate::Refusal;
@@ -28,10 +29,11 @@ pub enum Check {
 }
 
 impl Check {
-    /// Whether the check passes: its refusal exactly where it fails.
+    /// Whether the check passes: its refusal exactly where it fails. It takes no memory.
     pub fn test(self) -> Result<(), Refusal>
         requires { IsCheck self }
-        ensures { Tests (self ∷ []) result }
+        ensures checks { Tests (self ∷ []) result }
+        ensures outright { IfErr result (λ refusal. refusal ≢ Memory) }
     {
         match self {
             Check::SameRank { left, right } => refuse_unless(left == right, Refusal::Rank),

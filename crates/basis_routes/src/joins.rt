@@ -1,5 +1,6 @@
 //! The basis of a sum or a product of elements over two bases.
-ghost use Rattle.std.specs.Prelude.{◌≡◌, [], ◌∷◌, IfOk, unwrap_or};
+ghost use Rattle.std.specs.Prelude.{◌≡◌, ◌≢◌, [], ◌∷◌, IfOk, IfErr, unwrap_or};
+ghost use Rattle.basis_routes.specs.declared.refusal.Refusal.TheVariants.{Memory};
 ghost use Rattle.basis_routes.specs.declared.checks.Check.TheVariants.{Joined};
 ghost use Rattle.realisations.specs.Bases.{has_words, lies_in};
 ghost use Rattle.basis_routes.specs.Checks.{Tests};
@@ -55,6 +56,7 @@ fn is_inside(inner: AlgebraId, outer: AlgebraId) -> bool
 // The join, or `Mixed` with both algebras where there is none.
 pub(crate) fn join_or_refuse(left: BasisId, right: BasisId) -> Result<BasisId, Refusal>
     ensures checks { Tests (Joined left right ∷ []) result }
+    ensures outright { IfErr result (λ refusal. refusal ≢ Memory) }
     ensures value { IfOk result (λ basis. basis ≡ unwrap_or (join_of left right) left) }
 {
     match join(left, right) {

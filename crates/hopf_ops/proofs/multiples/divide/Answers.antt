@@ -33,7 +33,7 @@ returns-clause-checks c =
     let ratio = ratio_of b in
     let by : c.recip.result ≡ reciprocal ratio = c.recip.ensures ∙ ap (λ r. reciprocal r) c.in-Some.ensures.1 in
     let scalar : Passes (Scalar (length b.bases)) = c.in-Some.ensures.0 in
-    let nonzero : Passes (Nonzero ratio.num) = subst (λ (r : Ratio). r.num ≢ pos 0) c.in-Some.ensures.1 (rw (c.num.ensures.value, to_z-of_z w128 c.in-Some.divisor.num (fits_signed_from_abs w128 c.in-Some.divisor.num c.num.ensures.lowest.num_small)) at (c.in_ok-test.ensures 0 (Nonzero (pos 0)) (omega arith))) in
+    let nonzero : Passes (Nonzero ratio.num) = subst (λ (r : Ratio). r.num ≢ pos 0) c.in-Some.ensures.1 (rw (c.num.ensures.value, to_z-of_z w128 c.in-Some.divisor.num (fits_signed_from_abs w128 c.in-Some.divisor.num c.num.ensures.lowest.num_small)) at (c.in_ok-test.ensures.checks 0 (Nonzero (pos 0)) (omega arith))) in
     let pass : All Passes (Scalar (length b.bases) ∷ Nonzero ratio.num ∷ []) =
     All-cons Passes (Scalar (length b.bases)) (Nonzero ratio.num ∷ []) scalar (All-cons Passes (Nonzero ratio.num) [] nonzero (λ k d lt. absurd (omega arith))) in
     let needs = product_rule a.combination.den (unsigned_abs ratio.num) (norm_of a.combination.terms) b.combination.den 0 in
