@@ -6,7 +6,7 @@ use Rattle.std.proofs.lemmas.Int.{ints}
 use Rattle.std.specs.Int.{◌∣◌}
 use Rattle.std.specs.Prelude.{All, Bool, true, false, if◌then◌else◌, neg_ℤ}
 use Rattle.std.proofs.lemmas.List.{take_all}
-use Rattle.std.proofs.lemmas.List.Elements.{All-nil, All-cons, All-append}
+use Rattle.std.proofs.lemmas.List.Elements.{All-nil, All-cons}
 use Rattle.std.proofs.lemmas.Nat.Gcd.{dvd_refl, dvd_antisymm, le_of_dvd}
 use Rattle.hopf_num.specs.Divisors.{IsLcm}
 use Rattle.hopf_num.specs.Room.{HasRoom, IsFirstWithoutRoom, TestsRoom, sum_rule}
@@ -18,41 +18,8 @@ use Rattle.realisations.specs.Combinations.{Combination, weighed}
 use Rattle.linear_combos.specs.Combos.{IsMultiple}
 use Rattle.realisations.proofs.Agreement.{times_turned}
 use Rattle.hopf_num.proofs.Ring.{*ℤ_assoc, *ℤ-neg_ℤ, +ℤ-*ℤ}
-use Rattle.hopf_laws.specs.Bases.{least_limit}
-use Rattle.hopf_laws.specs.Values.{Expansion, IsValue, degree_of_value}
-use Rattle.basis_routes.specs.declared.refusal.Refusal.{Refusal}
-use Rattle.basis_routes.specs.declared.checks.Check.TheVariants.{SameRank, DegreeWithin}
-use Rattle.basis_routes.specs.Checks.{Passes, Tests}
-use Rattle.basis_routes.specs.Joins.{joined, join_checks}
-use Rattle.basis_routes.proofs.Degrees.{degree_within}
-use Rattle.basis_routes.proofs.Rows.{refused_front, refused_back}
 use Rattle.hopf_ops.specs.Answers.{IsSumOrDifference}
 use Rattle.hopf_ops.specs.Gathering.{AddsMultiple}
-use Rattle.hopf_ops.specs.Operations.{common_checks}
-use Rattle.hopf_ops.proofs.SumsOfValues.{same_bases, joined-same}
-
--- the degree of a sum is within the limit always
-pub degree_of_sum : (a b : Expansion) → IsValue a → IsValue b → length a.bases ≡ length b.bases
-    → max (degree_of_value a) (degree_of_value b) ≤ least_limit (joined a.bases b.bases)
-degree_of_sum a b ha hb long =
-    let right : degree_of_value b ≤ least_limit a.bases =
-    subst (λ bases. degree_of_value b ≤ least_limit bases) (sym (same_bases a.bases b.bases ha.built hb.built long)) (degree_within b hb) in
-    let both : max (degree_of_value a) (degree_of_value b) ≤ least_limit a.bases = omega (arith, degree_within a ha, right) in
-    subst (λ bases. max (degree_of_value a) (degree_of_value b) ≤ least_limit bases) (sym (joined-same a.bases b.bases ha.built hb.built long)) both
-
--- so the joins are the only checks that are left once the ranks are equal
-pub tests_common : {T : Type 0} (a b : Expansion) (result : Result T Refusal) → IsValue a → IsValue b → length a.bases ≡ length b.bases
-    → Tests (join_checks a.bases b.bases) result → Tests (common_checks (max (degree_of_value a) (degree_of_value b)) a b) result
-tests_common a b (Ok value) ha hb long joins =
-    let ranks = SameRank (length a.bases) (length b.bases) in
-    let within = DegreeWithin (max (degree_of_value a) (degree_of_value b)) (least_limit (joined a.bases b.bases)) in
-    All-cons Passes ranks (join_checks a.bases b.bases ++ within ∷ []) long
-    (All-append Passes (join_checks a.bases b.bases) (within ∷ []) joins (All-cons Passes within [] (degree_of_sum a b ha hb long) (All-nil Passes)))
-tests_common a b (Err refusal) ha hb long joins =
-    let ranks = SameRank (length a.bases) (length b.bases) in
-    let within = DegreeWithin (max (degree_of_value a) (degree_of_value b)) (least_limit (joined a.bases b.bases)) in
-    refused_back (ranks ∷ []) (join_checks a.bases b.bases ++ within ∷ []) refusal (All-cons Passes ranks [] long (All-nil Passes))
-    (refused_front (join_checks a.bases b.bases) (within ∷ []) refusal joins)
 
 times_one : (z : ℤ) → z *ℤ pos 1 ≡ z
 unfolding one

@@ -1,6 +1,7 @@
 //! What operations on two values have in common.
-ghost use Rattle.std.specs.Prelude.{◌≡◌, ◌≤◌, max, IfOk};
+ghost use Rattle.std.specs.Prelude.{◌≡◌, ◌≤◌, [], ◌∷◌, max, IfOk};
 ghost use Rattle.hopf_laws.specs.Values.{IsValue, degree_of_value};
+ghost use Rattle.basis_routes.specs.declared.checks.Check.TheVariants.{DegreeWithin};
 ghost use Rattle.basis_routes.specs.Checks.{Tests};
 ghost use Rattle.basis_routes.specs.Joins.{joined};
 ghost use Rattle.hopf_ops.specs.Operations.{common_checks};
@@ -28,7 +29,7 @@ pub(crate) fn common_bases(a: &Value, b: &Value, degree: u32) -> Result<Bases, R
     Ok(bases)
 }
 
-// The same where the degree is the greater one of both, which is within the limit always.
+// The same where the degree is the greater one of both.
 pub(crate) fn common_bases_of_sum(a: &Value, b: &Value) -> Result<Bases, Refusal>
     ensures checks { Tests (common_checks (max (degree_of_value a.now) (degree_of_value b.now)) a.now b.now) result }
     ensures value { IfOk result (λ bases. bases ≡ joined a.now.bases b.now.bases) }
@@ -38,7 +39,24 @@ pub(crate) fn common_bases_of_sum(a: &Value, b: &Value) -> Result<Bases, Refusal
         right: b.rank(),
     }
     .test()?;
-    a.bases().joined(b.bases())
+    let bases = a.bases().joined(b.bases())?;
+    test_degree_of_sum(a, b, bases.least_limit())?;
+    Ok(bases)
+}
+
+// Whether the greater degree is within a limit. The keys are looked at only where the limit is below
+// that of one of the values.
+fn test_degree_of_sum(a: &Value, b: &Value, limit: u32) -> Result<(), Refusal>
+    ensures { Tests (DegreeWithin (max (degree_of_value a.now) (degree_of_value b.now)) limit ∷ []) result }
+{
+    if a.bases().least_limit().max(b.bases().least_limit()) <= limit {
+        return Ok(());
+    }
+    Check::DegreeWithin {
+        degree: a.degree().max(b.degree()),
+        limit,
+    }
+    .test()
 }
 
 // The combination over these bases, or the refusal that its fault is.

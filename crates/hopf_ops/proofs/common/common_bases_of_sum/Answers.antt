@@ -1,13 +1,35 @@
-use Rattle.std.proofs.Common.{◌≡◌, length, rules}
-use Rattle.basis_routes.specs.Checks.{Tests}
-use Rattle.basis_routes.specs.Joins.{join_checks}
-use Rattle.hopf_ops.proofs.SumsInPlace.{tests_common}
+use Rattle.std.proofs.Common.{[], ◌∷◌, ◌++◌, length, max, rules}
+use Rattle.std.specs.Prelude.{All}
+use Rattle.std.proofs.lemmas.Result.{err_from_is_err_and}
+use Rattle.hopf_laws.specs.Bases.{least_limit}
+use Rattle.hopf_laws.specs.Values.{degree_of_value}
+use Rattle.basis_routes.specs.declared.checks.Check.TheVariants.{SameRank, DegreeWithin}
+use Rattle.basis_routes.specs.Checks.{Passes, IsRefusalOf}
+use Rattle.basis_routes.specs.Joins.{joined, join_checks}
+use Rattle.basis_routes.proofs.Rows.{refused_front, refused_back}
 use Rattle.hopf_ops.proofs.common.common_bases_of_sum.Goals as goal
 
-pub returns-clause-checks : goal.returns-clause-checks
-returns-clause-checks c =
-    let a = c.args.a.now in
-    let b = c.args.b.now in
-    let long : length a.bases ≡ length b.bases = search rules in
-    let joins : Tests (join_checks a.bases b.bases) c.joined.result = search rules in
-    tests_common a b c.joined.result c.rank.ensures.value c.rank-2.ensures.value long joins
+pub returns-in_err-bases-clause-checks : goal.returns-in_err-bases-clause-checks
+returns-in_err-bases-clause-checks c =
+    let p = err_from_is_err_and c.from_residual-in_err-bases.result c.from_residual-in_err-bases.ensures.1 in
+    let a = c.args.a.now.bases in
+    let b = c.args.b.now.bases in
+    let n = max (degree_of_value c.args.a.now) (degree_of_value c.args.b.now) in
+    let rank = SameRank (length a) (length b) ∷ [] in
+    let degree = DegreeWithin n (least_limit (joined a b)) ∷ [] in
+    let ranks : All Passes rank = search rules in
+    let joins : IsRefusalOf (join_checks a b) c.in_err-bases.field-0.0 = search rules in
+    rw (p.1, p.2) (refused_back rank (join_checks a b ++ degree) c.in_err-bases.field-0.0 ranks (refused_front (join_checks a b) degree c.in_err-bases.field-0.0 joins))
+
+pub returns-in_err-test_degree_of_sum-clause-checks : goal.returns-in_err-test_degree_of_sum-clause-checks
+returns-in_err-test_degree_of_sum-clause-checks c =
+    let p = err_from_is_err_and c.from_residual-in_err-test_degree_of_sum.result c.from_residual-in_err-test_degree_of_sum.ensures.1 in
+    let a = c.args.a.now.bases in
+    let b = c.args.b.now.bases in
+    let n = max (degree_of_value c.args.a.now) (degree_of_value c.args.b.now) in
+    let rank = SameRank (length a) (length b) ∷ [] in
+    let degree = DegreeWithin n (least_limit (joined a b)) ∷ [] in
+    let ranks : All Passes rank = search rules in
+    let joins : All Passes (join_checks a b) = search rules in
+    let past : IsRefusalOf degree c.in_err-test_degree_of_sum.field-0.0 = search rules in
+    rw (p.1, p.2) (refused_back rank (join_checks a b ++ degree) c.in_err-test_degree_of_sum.field-0.0 ranks (refused_back (join_checks a b) degree c.in_err-test_degree_of_sum.field-0.0 joins past))
