@@ -321,5 +321,6 @@ meant names x v values evaluates =
     record {
       meaning = found.0;
       means = found.1;
+      positive = found.2.right;
       reads = λ ps long. found.2.agree ps (long ∙ sym (length-kinds v.bases));
     }

@@ -5,12 +5,16 @@ use Rattle.hopf_laws.specs.Values.{Expansion}
 use Rattle.session_grammar.specs.declared.expression.Expr.{Expr}
 use Rattle.session_evaluation.specs.Built.{IsBuilt}
 use Rattle.session_evaluation.specs.Evaluation.{Evaluates}
-use Rattle.session_evaluation.specs.Meaning.{Means}
+use Rattle.session_evaluation.specs.Meaning.{Means, IsMeant}
 use Rattle.session_evaluation.specs.Names.{Names, AreValues}
 
--- an expression means one reading
+-- an expression means at most one reading
 abbrev pub OneMeaning : Type 0
 OneMeaning = (names : Names) (x : Expr) (r s : Reading) → Means names x r → Means names x s → r ≡ s
+
+-- an expression that comes to a value means one, over a positive denominator, and the value reads so
+abbrev pub SomeMeaning : Type 0
+SomeMeaning = (names : Names) (x : Expr) (v : Expansion) → AreValues names → Evaluates names x (Ok v) → IsMeant names x v
 
 -- expressions that mean the same, and have values over the same bases, have the same value, whatever bases their parts were entered in
 abbrev pub SameMeaning : Type 0

@@ -1,5 +1,5 @@
 -- What an expression means: a reading, whatever bases its parts were entered in.
-use Rattle.std.specs.Prelude.{◌≡◌, ℕ, pos, negsuc, Bool, List, [], ◌∷◌, ◌||◌, Some, length, nat_eq, if◌then◌else◌}
+use Rattle.std.specs.Prelude.{◌≡◌, ◌≤◌, ℕ, pos, negsuc, Bool, List, [], ◌∷◌, ◌||◌, Some, length, nat_eq, if◌then◌else◌}
 use Rattle.hopf_num.specs.Fractions.{Ratio, reciprocal}
 use Rattle.realisations.specs.Readings.{Reading, leaf, element, product, tensor, sum_of, multiple, kinds_of, numerator, denominator, AgreeAt}
 use Rattle.basis_names.specs.declared.bases.BasisId.{BasisId}
@@ -60,8 +60,9 @@ mutual
     combine : {a b whole : Reading} {o : Operator} {x : Expr} {steps : Steps} → Means names x b
         → Combine names (combined o a b) steps whole → Combine names a ((o, x) ∷ steps) whole
 
--- a value reads, at every tuple of points, as the expression means
+-- a value reads, at every tuple of points, as the expression means, over a positive denominator
 pub record IsMeant (names : Names) (x : Expr) (v : Expansion) : Type 0 where
   pub meaning : Reading
   pub means : Means names x meaning
+  pub positive : 1 ≤ denominator meaning
   pub reads : (ps : List (List ℕ)) → length ps ≡ length v.bases → AgreeAt (reading_of v) meaning ps
