@@ -12,15 +12,19 @@ use hopf_num::OutOfMemory;
 use session_evaluation::Names;
 use session_tokens::is_blank;
 use std::alloc::Global;
+use thiserror::Error;
 
 /// Why a session stopped.
-#[derive(Clone, Copy, Debug, PartialEq, Eq)]
+#[derive(Clone, Copy, Debug, PartialEq, Eq, Error)]
 pub enum SessionFault {
     /// The sink failed.
+    #[error("write failed")]
     Write,
     /// Memory ran out.
+    #[error("out of memory")]
     Memory,
     /// An earlier call ended the session.
+    #[error("the session has ended")]
     Ended,
 }
 
