@@ -1,8 +1,8 @@
-//! Tests of the crates of combinations and of values, over several of their calls.
+//! Tests of codes, keys, indices and values, over several of their calls. What a session shows is tried by sessions.
 #![tactic(auto)]
 
 #[cfg(test)]
-mod combos;
+mod keys;
 #[cfg(test)]
 mod lists_of_parts;
 #[cfg(test)]
