@@ -1,15 +1,16 @@
 -- The representatives of the bases indexed by compositions.
-use Rattle.std.proofs.Common.{◌≡◌, ◌⊎◌, ℕ, ◌-◌, ◌<◌, true, List, length, sym, ◌∙◌, ap, arith, inl, inr}
+use Rattle.std.proofs.Common.{◌≡◌, ◌⊎◌, ℕ, zero, suc, ◌-◌, ◌<◌, true, List, [], ◌∷◌, length, refl, sym, ◌∙◌, ap, arith, inl, inr}
 use Rattle.std.specs.List.{sum}
 use Rattle.basis_names.specs.declared.bases.BasisId.{BasisId}
 use Rattle.basis_names.specs.declared.bases.BasisId.TheVariants.{QsymM, QsymF, NcsfR, NcsfS, NcsfL}
 use Rattle.realisations.specs.Lists.{same_list}
+use Rattle.realisations.specs.Exponents.{without_zeros}
 use Rattle.realisations.specs.Descents.{is_finer, word_of_composition, complement}
 use Rattle.realisations.specs.IndexKinds.{IsComposition}
 use Rattle.realisations.specs.Occurrence.{occurs}
-use Rattle.realisations.proofs.ClassBases.{without_zeros-composition}
 use Rattle.basis_representatives.specs.Laws.{AreClasses}
 use Rattle.basis_representatives.specs.Representatives.{HasRepresentatives}
+use Rattle.basis_representatives.proofs.PointsOfIndices.{representative_point}
 use Rattle.basis_representatives.proofs.Bits.{turned_composition}
 use Rattle.basis_representatives.proofs.Complements.{complement-turned}
 use Rattle.basis_representatives.proofs.BlockWords.{descent_composition-word_of_composition}
@@ -21,9 +22,16 @@ use Rattle.basis_representatives.proofs.Refinement.{is_finer-self, sum-finer, sa
 pub representatives_of_classes : (basis : BasisId) → AreClasses basis → HasRepresentatives basis
 representatives_of_classes basis classes = record {
   measure = λ code. 0;
+  point = representative_point basis;
   own = λ index h. classes index h index h ∙ same_list-self index;
   others = λ index code h hc there. inl (sym (same_list-true index code (sym (classes index h code hc) ∙ there)));
 }
+
+-- a composition has no zeros
+without_zeros-composition : (code : List ℕ) → IsComposition code → without_zeros code ≡ code
+without_zeros-composition [] h = refl
+without_zeros-composition (zero ∷ code) h = absurd (omega (arith, h.0))
+without_zeros-composition (suc n ∷ code) h = ap (λ p. suc n ∷ p) (without_zeros-composition code h.1)
 
 -- M of I occurs at I, as exponents, alone
 pub classes_of_exponents : AreClasses QsymM
@@ -65,6 +73,7 @@ same_or_coarser code index hc h finer = elim (same_or_longer code index hc h fin
 -- F of I is triangular in the number of parts
 pub fundamental_representatives : HasRepresentatives QsymF
 fundamental_representatives = record {
+  point = representative_point QsymF;
   measure = λ code. length code;
   own = λ index h. fundamental_at-representative index index h ∙ is_finer-self index h;
   others = λ index code h hc there. elim (same_or_longer index code h hc (sym (fundamental_at-representative code index h) ∙ there)) [
@@ -76,6 +85,7 @@ fundamental_representatives = record {
 -- S of I in the coarseness
 pub complete_representatives : HasRepresentatives NcsfS
 complete_representatives = record {
+  point = representative_point NcsfS;
   measure = coarseness;
   own = λ index h. complete_at-representative index index h ∙ is_finer-self index h;
   others = λ index code h hc there. same_or_coarser code index hc h (sym (complete_at-representative code index h) ∙ there);
@@ -84,6 +94,7 @@ complete_representatives = record {
 -- and so L of I
 pub elementary_representatives : HasRepresentatives NcsfL
 elementary_representatives = record {
+  point = representative_point NcsfL;
   measure = coarseness;
   own = λ index h. elementary_at-representative index index h h ∙ is_finer-self index h;
   others = λ index code h hc there. same_or_coarser code index hc h (sym (elementary_at-representative code index hc h) ∙ there);

@@ -14,6 +14,7 @@ pub mod Letters
 pub mod PackedWords
 pub mod Permutations
 pub mod Places
+pub mod PointsOfIndices
 pub mod Ranges
 pub mod ReadingWords
 pub mod Refinement

@@ -1,5 +1,5 @@
 -- At the representatives of a key that key is read 1, and another only where its measure is smaller.
-use Rattle.std.proofs.Common.{◌≡◌, ◌⊎◌, ℕ, ◌+◌, ◌*◌, ◌<◌, List, [], ◌∷◌, length, refl, sym, ◌∙◌, ap, arith, inl, inr}
+use Rattle.std.proofs.Common.{◌≡◌, ◌⊎◌, ℕ, ◌+◌, ◌*◌, ◌<◌, List, [], ◌∷◌, map, refl, sym, ◌∙◌, ap, arith, inl, inr}
 use Rattle.std.proofs.lemmas.Bool.{cases_Bool}
 use Rattle.std.specs.declared.cmp.Ordering.{Ordering}
 use Rattle.std.specs.declared.cmp.Ordering.TheVariants.{Less, Equal, Greater}
@@ -10,7 +10,8 @@ use Rattle.realisations.specs.Readings.{occurrence}
 use Rattle.realisations.specs.Combinations.{key_cmp}
 use Rattle.realisations.proofs.KeyOrders.{same_key}
 use Rattle.realisations.proofs.Coefficients.{Codes, counts}
-use Rattle.realisations.specs.Bases.{representative, representatives}
+use Rattle.realisations.specs.Bases.{kind_of, representative, representatives}
+use Rattle.realisations.specs.Points.{ArePoints}
 use Rattle.realisations.specs.Indices.{AreIndices}
 use Rattle.basis_representatives.specs.Laws.{RepresentativesLaw}
 use Rattle.basis_representatives.proofs.VanishingWeights.{key_cmp-self}
@@ -79,8 +80,9 @@ triangular_keys bases have k key hk h = elim (stands bases have k key hk h) [
         let same = ap (λ v. occurrence bases v (representatives bases key)) (same_key k key e) in
         absurd (omega arith)
 
--- there is one representative for each basis
-pub length-representatives : (bases : List BasisId) (key : Codes) (h : AreIndices bases key) → length (representatives bases key) ≡ length bases
-length-representatives [] key h = refl
-length-representatives (basis ∷ bases) [] h = absurd h
-length-representatives (basis ∷ bases) (code ∷ key) h = omega (arith, length-representatives bases key h.1)
+-- the representatives of a key are points
+pub points_of_key : (bases : List BasisId) (have : RepresentativesLaw) (key : Codes) → AreIndices bases key → ArePoints (map kind_of bases) (representatives bases key)
+points_of_key [] have [] h = tt
+points_of_key [] have (code ∷ key) h = absurd h
+points_of_key (basis ∷ bases) have [] h = absurd h
+points_of_key (basis ∷ bases) have (code ∷ key) h = ((have basis).point code h.0, points_of_key bases have key h.1)

@@ -3,11 +3,10 @@ use Rattle.std.specs.Prelude.{◌≡◌, ℕ, List, length}
 use Rattle.basis_names.specs.declared.bases.BasisId.{BasisId}
 use Rattle.basis_names.specs.declared.bases.BasisId.TheVariants.{NcsfR, FqsymF, FqsymG, WqsymM, FsymS, PbtP, QsymM}
 use Rattle.realisations.specs.Bases.{representative, representatives}
-use Rattle.realisations.specs.ClassBases.{IsRepresentative}
 use Rattle.realisations.specs.Combinations.{Combination, IsCanonical, HasKey}
 use Rattle.realisations.specs.Indices.{IsIndex, AreIndices}
 use Rattle.realisations.specs.Readings.{leaf, AgreeAt}
-use Rattle.basis_representatives.specs.Representatives.{HasRepresentatives}
+use Rattle.basis_representatives.specs.Representatives.{IsRepresentative, HasRepresentatives}
 
 -- at the representative of an index its element occurs, and no other one does
 abbrev pub AreClasses : BasisId → Type 0

@@ -3,13 +3,14 @@ use Rattle.std.proofs.Common.{◌≡◌, ℕ, ◌+◌, ◌*◌, ◌≤◌, List,
 use Rattle.std.proofs.Math.IntN.{pos, ◌*ℤ◌}
 use Rattle.std.proofs.lemmas.Int.{ints}
 use Rattle.std.specs.List.{flat_map, sum}
-use Rattle.realisations.proofs.OnePoint.{at_one_point}
+use Rattle.realisations.proofs.TuplesOfPoints.{at_one_point}
 use Rattle.realisations.specs.Answers.{IsAnswer}
 use Rattle.realisations.specs.Combinations.{Combination, IsCanonical, HasKey, norm_of}
 use Rattle.realisations.specs.IndexKinds.{IsComposition}
 use Rattle.realisations.specs.Indices.{AreIndices, total_degree}
 use Rattle.realisations.specs.Lists.{int_sum}
 use Rattle.realisations.specs.Exponents.{exponent_cuts}
+use Rattle.realisations.specs.Points.{exponents}
 use Rattle.realisations.specs.Readings.{Terms, leaf, product, element, numerator, all_cuts, occurrence, AgreeAt}
 use Rattle.basis_names.specs.declared.bases.BasisId.TheVariants.{QsymM}
 use Rattle.realisations.proofs.Sums.{sums}
@@ -70,5 +71,5 @@ shuffles_answer j k c canonical hj hk rank whole norm h = record {
   small = omega (arith, norm, shuffles_small (sum j + sum k) j k (omega (arith, length-le-sum j hj, length-le-sum k hk)));
   indices = λ key has. index_of_key _ key (key_of_new j k c.terms h key has);
   degrees = λ key has. degree_of_key _ key (key_of_new j k c.terms h key has);
-  reads = at_one_point (AgreeAt (leaf (QsymM ∷ []) 1 c.terms) (product (element QsymM j) (element QsymM k))) (shuffles_read j k c.terms hj hk h);
+  reads = at_one_point exponents (AgreeAt (leaf (QsymM ∷ []) 1 c.terms) (product (element QsymM j) (element QsymM k))) (λ p point. shuffles_read j k c.terms hj hk h p);
 }

@@ -26,6 +26,6 @@ expands_once bases r v w positive h k =
     (h.value.rank ∙ ap (λ (bs : List BasisId). length bs) h.over) (k.value.rank ∙ ap (λ (bs : List BasisId). length bs) k.over) positive
     (subst (λ bs. (key : List (List ℕ)) → HasKey v.combination.terms key → AreIndices bs key) h.over h.value.indices)
     (subst (λ bs. (key : List (List ℕ)) → HasKey w.combination.terms key → AreIndices bs key) k.over k.value.indices)
-    (λ ps long. subst (λ bs. AgreeAt (leaf bs v.combination.den v.combination.terms) r ps) h.over (h.reads ps long))
-    (λ ps long. subst (λ bs. AgreeAt (leaf bs w.combination.den w.combination.terms) r ps) k.over (k.reads ps long)) in
+    (λ ps points. subst (λ bs. AgreeAt (leaf bs v.combination.den v.combination.terms) r ps) h.over (h.reads ps points))
+    (λ ps points. subst (λ bs. AgreeAt (leaf bs w.combination.den w.combination.terms) r ps) k.over (k.reads ps points)) in
     λ i. record { bases = over i; combination = same i }

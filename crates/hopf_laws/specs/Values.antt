@@ -1,8 +1,10 @@
 -- Values: combinations over a list of bases.
-use Rattle.std.specs.Prelude.{◌≡◌, ℕ, ◌≤◌, max, List, [], ◌∷◌, length}
+use Rattle.std.specs.Prelude.{◌≡◌, ℕ, ◌≤◌, max, List, [], ◌∷◌, length, map}
 use Rattle.hopf_num.specs.Fractions.{Ratio}
 use Rattle.realisations.specs.Combinations.{Combination, IsCanonical, HasKey}
 use Rattle.realisations.specs.Indices.{AreIndices, total_degree}
+use Rattle.realisations.specs.Bases.{kind_of}
+use Rattle.realisations.specs.Points.{ArePoints}
 use Rattle.realisations.specs.Readings.{Terms, Reading, leaf, numerator, AgreeAt}
 use Rattle.basis_names.specs.declared.bases.BasisId.{BasisId}
 use Rattle.hopf_laws.specs.Bases.{AreBuilt, least_limit}
@@ -42,4 +44,4 @@ degree_of_value v = greatest_degree v.bases v.combination.terms
 pub record Expands (bases : List BasisId) (reading : Reading) (v : Expansion) : Type 0 where
   pub value : IsValue v
   pub over : v.bases ≡ bases
-  pub reads : (ps : List (List ℕ)) → length ps ≡ length bases → AgreeAt (reading_of v) reading ps
+  pub reads : (ps : List (List ℕ)) → ArePoints (map kind_of bases) ps → AgreeAt (reading_of v) reading ps

@@ -1,5 +1,5 @@
 -- Steps of the gathered product of two combinations.
-use Rattle.std.proofs.Common.{◌≡◌, ℕ, ◌+◌, ◌*◌, ◌^◌, ◌<◌, ◌≤◌, ◌⊎◌, [], length, List, take, inl, inr, refl, sym, ◌∙◌, ap, subst, arith, unsigned_abs}
+use Rattle.std.proofs.Common.{◌≡◌, ℕ, ◌+◌, ◌*◌, ◌^◌, ◌<◌, ◌≤◌, ◌⊎◌, [], length, List, map, take, inl, inr, refl, sym, ◌∙◌, ap, subst, arith, unsigned_abs}
 use Rattle.std.proofs.Math.IntN.{ℤ, pos, ◌+ℤ◌, ◌*ℤ◌, *ℤ-zero}
 use Rattle.std.proofs.Math.Nat.{mul-le-mul_left, mul-le-mul_right}
 use Rattle.std.proofs.Math.Pow.{pow_mono}
@@ -10,6 +10,8 @@ use Rattle.std.proofs.lemmas.List.Sums.{sum_by_more, sum_by-take-le}
 use Rattle.hopf_num.proofs.Ring.{*ℤ-+ℤ, *ℤ_assoc, *ℤ-pos_cancel}
 use Rattle.realisations.specs.Combinations.{Combination, IsCanonical, HasKey, norm_of, term_at, weighed, AddsTerm}
 use Rattle.realisations.specs.Indices.{AreIndices, total_degree}
+use Rattle.realisations.specs.Bases.{kind_of}
+use Rattle.realisations.specs.Points.{ArePoints}
 use Rattle.realisations.specs.Readings.{Terms, leaf, product, of_key, occurrence, numerator}
 use Rattle.realisations.proofs.Coefficients.{Codes}
 use Rattle.realisations.proofs.Linearity.{reads_bilinearly}
@@ -92,7 +94,7 @@ none_gathered bases ts us c rank long is =
       indices = λ key has. absurd (omega (arith, has.1));
       degrees = λ key has. absurd (omega (arith, has.1));
       norm = omega arith;
-      reads = λ ps size. omega (arith, ints, *ℤ-zero (term_at ts 0).0);
+      reads = λ ps points. omega (arith, ints, *ℤ-zero (term_at ts 0).0);
     })
 
 module _ (bases : List BasisId) (a b : Combination) (factors : AreFactors bases a b) (i j : ℕ) (here : i < length a.terms) (there : j < length b.terms) where
@@ -158,10 +160,10 @@ module _ (bases : List BasisId) (a b : Combination) (factors : AreFactors bases 
   )
 
   -- the product reads as that of the keys
-  product_reads : (ps : Codes) → length ps ≡ length bases
+  product_reads : (ps : Codes) → ArePoints (map kind_of bases) ps
       → numerator (leaf bases 1 p.terms) ps ≡ numerator (product (of_key bases ((term_at a.terms i).1)) (of_key bases ((term_at b.terms j).1))) ps
-  product_reads ps size =
-      *ℤ-pos_cancel _ _ 1 (omega arith) (is.reads ps (size))
+  product_reads ps points =
+      *ℤ-pos_cancel _ _ 1 (omega arith) (is.reads ps points)
 
   -- a multiple of it was added
   pub product_gathered : (new : Combination) → AddsMultiple c ((term_at a.terms i).0 *ℤ (term_at b.terms j).0) p.terms (length p.terms) new → AreGathered bases a.terms b.terms i (j + 1) new
@@ -181,12 +183,12 @@ module _ (bases : List BasisId) (a b : Combination) (factors : AreFactors bases 
           product_norm,
           ap (λ n. (norm_of (take i a.terms) * norm_of b.terms + unsigned_abs x * n) * 2 ^ (5 * degree_of_product bases a.terms b.terms)) (norm-more b.terms j there),
         );
-        reads = λ ps size.
+        reads = λ ps points.
             let w = λ (key : Codes). pos (occurrence bases key ps) in
             let g = λ (l : Codes). numerator (product (of_key bases ((term_at a.terms i).1)) (of_key bases l)) ps in
             let added : (x *ℤ y) *ℤ weighed w (take (length p.terms) p.terms) ≡ (x *ℤ y) *ℤ g (term_at b.terms j).1 =
-            ap (λ us. (x *ℤ y) *ℤ weighed w us) whole ∙ ap (λ z. (x *ℤ y) *ℤ z) (product_reads ps size) in
-            omega (arith, ints, adds.weighs w, so_far.reads ps size, added, scaled-more x g b.terms j there);
+            ap (λ us. (x *ℤ y) *ℤ weighed w us) whole ∙ ap (λ z. (x *ℤ y) *ℤ z) (product_reads ps points) in
+            omega (arith, ints, adds.weighs w, so_far.reads ps points, added, scaled-more x g b.terms j there);
       }
 
 -- a row is finished
@@ -201,12 +203,12 @@ row_gathered bases ts us i c here is =
       indices = is.indices;
       degrees = is.degrees;
       norm = omega (arith, is.norm, ap (λ l. unsigned_abs x * norm_of l * growth) whole, ap (λ n. n * norm_of us * growth) (norm-more ts i here));
-      reads = λ ps size.
+      reads = λ ps points.
           let f = λ (k l : Codes). numerator (product (of_key bases k) (of_key bases l)) ps in
           omega (
             arith,
             ints,
-            is.reads ps size,
+            is.reads ps points,
             ap (λ l. x *ℤ weighed (f (term_at ts i).1) l) whole,
             weighed-more (λ k. weighed (f k) us) ts i here,
             *ℤ-zero (term_at ts (i + 1)).0,
@@ -223,9 +225,9 @@ all_gathered bases a b c canonical is =
       whole = is.whole;
       over = record { rank = is.rank; indices = is.indices };
       degrees = is.degrees;
-      reads = λ ps size.
+      reads = λ ps points.
           let f = λ (k l : Codes). numerator (product (of_key bases k) (of_key bases l)) ps in
           let all : numerator (leaf bases 1 c.terms) ps ≡ weighed (λ k. weighed (f k) b.terms) a.terms =
-          omega (arith, ints, is.reads ps size, ap (weighed (λ k. weighed (f k) b.terms)) whole, *ℤ-zero (term_at a.terms (length a.terms)).0) in
+          omega (arith, ints, is.reads ps points, ap (weighed (λ k. weighed (f k) b.terms)) whole, *ℤ-zero (term_at a.terms (length a.terms)).0) in
           all ∙ sym (reads_bilinearly bases a.den b.den a.terms b.terms ps);
     }

@@ -82,7 +82,7 @@ multiple_value a by ha positive small room =
       record {
         value = value_over a.bases c.0 (multiple_over a by c.0 ha c.1.multiple) c.1.canonical;
         over = refl;
-        reads = λ ps long. multiple_reads a by c.0 c.1.multiple ps;
+        reads = λ ps points. multiple_reads a by c.0 c.1.multiple ps;
       },
     )
 

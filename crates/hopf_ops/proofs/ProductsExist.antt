@@ -173,9 +173,9 @@ product_value a b ha hb same some within room =
       record {
         value = gathered_value a.bases n (x.den * y.den) x y g.0 c.0 ha.short ha.built small g.1 c.1.multiple c.1.canonical;
         over = refl;
-        reads = λ ps long.
+        reads = λ ps points.
             subst (λ bases. AgreeAt (leaf a.bases c.0.den c.0.terms) (product (reading_of a) (leaf bases y.den y.terms)) ps) (sym same)
-            (gathered_reads a.bases n x y g.0 c.0 g.1 c.1.multiple ps long);
+            (gathered_reads a.bases n x y g.0 c.0 g.1 c.1.multiple ps points);
       },
     )
 

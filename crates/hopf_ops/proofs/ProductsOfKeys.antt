@@ -11,6 +11,7 @@ use Rattle.std.proofs.lemmas.Int.{ints}
 use Rattle.realisations.specs.Lists.{one_if, int_sum}
 use Rattle.basis_names.specs.declared.bases.BasisId.{BasisId}
 use Rattle.realisations.specs.Bases.{kind_of}
+use Rattle.realisations.specs.Points.{ArePoints}
 use Rattle.realisations.specs.Occurrence.{occurs}
 use Rattle.realisations.specs.Answers.{IsAnswer}
 use Rattle.realisations.specs.Indices.{AreIndices, total_degree, degree_of}
@@ -20,6 +21,7 @@ use Rattle.realisations.specs.Readings.{leaf, occurrence, numerator, product, of
 use Rattle.realisations.proofs.Coefficients.{Codes}
 use Rattle.realisations.proofs.Linearity.{numerator-of_key}
 use Rattle.realisations.proofs.Sums.{sums, sums-map, sums-flat_map, sums_same, sums-scale}
+use Rattle.realisations.proofs.TuplesOfPoints.{length-points_over}
 use Rattle.hopf_num.proofs.Ring.{*ℤ-pos_cancel}
 use Rattle.hopf_laws.specs.Bases.{least_limit}
 use Rattle.hopf_ops.specs.Gathering.{AreFactorKeys, IsProductOfKeys}
@@ -103,17 +105,16 @@ module _ (basis : BasisId) (bases : List BasisId) (x y : List ℕ) (k l : Codes)
       omega (arith, is.den, product, canonical.lowest.positive)
 
   -- what it reads as
-  tensor_product_reads : (ps : Codes) → length ps ≡ suc (length bases)
+  tensor_product_reads : (ps : Codes) → ArePoints (map kind_of (basis ∷ bases)) ps
       → AgreeAt (leaf (basis ∷ bases) 1 c.terms) (product (of_key (basis ∷ bases) (x ∷ k)) (of_key (basis ∷ bases) (y ∷ l))) ps
-  tensor_product_reads [] long = absurd (omega arith)
-  tensor_product_reads (p ∷ ps) long =
-      let size : length ps ≡ length bases = omega arith in
-      let sizes : length (p ∷ ps) ≡ length (basis ∷ []) + length bases = omega arith in
+  tensor_product_reads [] points = absurd points
+  tensor_product_reads (p ∷ ps) points =
+      let sizes : length (p ∷ ps) ≡ length (basis ∷ []) + length bases = omega (arith, length-points_over bases ps points.1) in
       let terms : AreTerms (length (basis ∷ [])) a.terms = subst (λ r. AreTerms r a.terms) first.rank first.canonical.ordered in
       let left : numerator (leaf (basis ∷ []) 1 a.terms) (p ∷ []) ≡ numerator (product (element basis x) (element basis y)) (p ∷ []) =
-      *ℤ-pos_cancel (numerator (leaf (basis ∷ []) 1 a.terms) (p ∷ [])) (numerator (product (element basis x) (element basis y)) (p ∷ [])) 1 (omega arith) (first.reads (p ∷ []) refl) in
+      *ℤ-pos_cancel (numerator (leaf (basis ∷ []) 1 a.terms) (p ∷ [])) (numerator (product (element basis x) (element basis y)) (p ∷ [])) 1 (omega arith) (first.reads (p ∷ []) (points.0, tt)) in
       let right : numerator (leaf bases 1 b.terms) ps ≡ numerator (product (of_key bases k) (of_key bases l)) ps =
-      *ℤ-pos_cancel (numerator (leaf bases 1 b.terms) ps) (numerator (product (of_key bases k) (of_key bases l)) ps) 1 (omega arith) (others.reads ps size) in
+      *ℤ-pos_cancel (numerator (leaf bases 1 b.terms) ps) (numerator (product (of_key bases k) (of_key bases l)) ps) 1 (omega arith) (others.reads ps points.1) in
       let weight = λ (key : Codes). pos (occurrence (basis ∷ bases) key (p ∷ ps)) in
       let whole : weighed weight c.terms ≡ weighed (λ left. weighed (λ right. weight (left ++ right)) b.terms) a.terms =
       over_one (weighed weight c.terms) (weighed (λ left. weighed (λ right. weight (left ++ right)) b.terms) a.terms) a.den b.den c.den first.whole others.whole tensor_whole (is.weighs weight) in

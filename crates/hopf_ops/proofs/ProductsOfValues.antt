@@ -1,10 +1,12 @@
 -- The combination of a product of values as a value.
-use Rattle.std.proofs.Common.{◌≡◌, ℕ, ◌*◌, ◌^◌, ◌≤◌, ◌<◌, List, length, sym, ◌∙◌, ap, subst, arith}
+use Rattle.std.proofs.Common.{◌≡◌, ℕ, ◌*◌, ◌^◌, ◌≤◌, ◌<◌, List, length, map, sym, ◌∙◌, ap, subst, arith}
 use Rattle.std.proofs.Math.IntN.{pos, ◌*ℤ◌, *ℤ_comm, *ℤ-one, one}
 use Rattle.std.specs.Prelude.{All}
 use Rattle.hopf_num.specs.declared.room.Need.TheVariants.{Linear}
 use Rattle.realisations.specs.Combinations.{Combination, IsCanonical, norm_of}
 use Rattle.linear_combos.specs.Combos.{IsMultiple}
+use Rattle.realisations.specs.Bases.{kind_of}
+use Rattle.realisations.specs.Points.{ArePoints}
 use Rattle.realisations.specs.Readings.{leaf, product, occurrence, numerator, AgreeAt}
 use Rattle.basis_names.specs.declared.bases.BasisId.{BasisId}
 use Rattle.hopf_laws.specs.Bases.{AreBuilt, least_limit}
@@ -43,13 +45,13 @@ gathered_value bases n den a b g c short built within is over canonical = record
 
 -- and read as the product
 pub gathered_reads : (bases : List BasisId) (n : ℕ) (a b g c : Combination) → IsGathered bases n a b g → IsMultiple g (record { num = pos 1; den = a.den * b.den }) c
-    → (ps : List (List ℕ)) → length ps ≡ length bases
+    → (ps : List (List ℕ)) → ArePoints (map kind_of bases) ps
     → AgreeAt (leaf bases c.den c.terms) (product (leaf bases a.den a.terms) (leaf bases b.den b.terms)) ps
 unfolding one
-gathered_reads bases n a b g c is over ps long =
+gathered_reads bases n a b g c is over ps points =
     let value = numerator (leaf bases c.den c.terms) ps in
     let den : pos (a.den * b.den) ≡ pos g.den *ℤ pos (a.den * b.den) =
     sym (*ℤ-one (pos (a.den * b.den))) ∙ *ℤ_comm (pos (a.den * b.den)) (pos 1) ∙ ap (λ m. pos m *ℤ pos (a.den * b.den)) (sym is.whole) in
     ap (λ z. value *ℤ z) den
     ∙ over.weighs (λ key. pos (occurrence bases key ps))
-    ∙ ap (λ z. z *ℤ pos c.den) (*ℤ-one _ ∙ is.reads ps long)
+    ∙ ap (λ z. z *ℤ pos c.den) (*ℤ-one _ ∙ is.reads ps points)

@@ -1,5 +1,5 @@
 -- Refusals of room, from combinations to values.
-use Rattle.std.proofs.Common.{◌≡◌, ℕ, suc, List, [], ◌∷◌, length, Result, Ok, Err, inl, inr, refl, sym, subst, arith}
+use Rattle.std.proofs.Common.{◌≡◌, ℕ, suc, List, [], ◌∷◌, map, Result, Ok, Err, inl, inr, refl, sym, subst, arith}
 use Rattle.std.specs.Prelude.{All, IfOk}
 use Rattle.std.proofs.lemmas.Result.{IfOk-weaker}
 use Rattle.hopf_num.specs.declared.room.Need.{Need}
@@ -9,6 +9,8 @@ use Rattle.linear_combos.specs.declared.combo.ComboFault.{ComboFault}
 use Rattle.linear_combos.specs.declared.combo.ComboFault.TheVariants.{TooLarge as fault_too_large, Memory as fault_memory}
 use Rattle.linear_combos.specs.Faults.{TestsRoom}
 use Rattle.basis_names.specs.declared.bases.BasisId.{BasisId}
+use Rattle.realisations.specs.Bases.{kind_of}
+use Rattle.realisations.specs.Points.{ArePoints}
 use Rattle.realisations.specs.Readings.{Reading, leaf, AgreeAt}
 use Rattle.hopf_laws.specs.Values.{Expansion, IsValue, Expands}
 use Rattle.basis_routes.specs.declared.refusal.Refusal.{Refusal}
@@ -36,14 +38,14 @@ answer_has P Q bases (Err fault_memory) result e p q =
 -- a value over the bases reads as its combination does
 pub answer_expands : (P : Combination → Type 0) (bases : List BasisId) (reading : Reading) (combo : Result Combination ComboFault) (result : Result Expansion Refusal)
     → IsAnswerOver bases combo result → IfOk combo P → IfOk result IsValue
-    → ((c : Combination) → P c → (ps : List (List ℕ)) → length ps ≡ length bases → AgreeAt (leaf bases c.den c.terms) reading ps)
+    → ((c : Combination) → P c → (ps : List (List ℕ)) → ArePoints (map kind_of bases) ps → AgreeAt (leaf bases c.den c.terms) reading ps)
     → IfOk result (Expands bases reading)
 answer_expands P bases reading combo result e p value reads =
     IfOk-weaker result (λ (v : Expansion). (v.bases ≡ bases) × P v.combination × IsValue v) (Expands bases reading)
     (λ v h. record {
       value = h.2;
       over = h.0;
-      reads = λ ps long. subst (λ bs. AgreeAt (leaf bs v.combination.den v.combination.terms) reading ps) (sym h.0) (reads v.combination h.1 ps long);
+      reads = λ ps points. subst (λ bs. AgreeAt (leaf bs v.combination.den v.combination.terms) reading ps) (sym h.0) (reads v.combination h.1 ps points);
     })
     (answer_has P IsValue bases combo result e p value)
 

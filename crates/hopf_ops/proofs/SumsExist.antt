@@ -170,7 +170,7 @@ sum_exists m minus a b ha hb least pass =
       record {
         value = record { short = over.short; built = over.built; rank = over.rank; canonical = e.1; indices = over.indices; degrees = over.degrees };
         over = refl;
-        reads = λ ps size. sum_reads minus a b e.0 ha hb long e.2 ps;
+        reads = λ ps points. sum_reads minus a b e.0 ha hb long e.2 ps;
       },
     )
 

@@ -10,9 +10,11 @@ use Rattle.realisations.specs.Indices.{AreIndices, total_degree}
 use Rattle.realisations.specs.Readings.{Terms, leaf, tensor, occurrence, numerator, AgreeAt}
 use Rattle.basis_names.specs.declared.bases.BasisId.{BasisId}
 use Rattle.realisations.specs.Bases.{kind_of}
+use Rattle.realisations.specs.Points.{ArePoints}
 use Rattle.realisations.specs.Occurrence.{occurs}
 use Rattle.realisations.proofs.Coefficients.{Codes, each_from, weighed_same}
 use Rattle.realisations.proofs.Linearity.{weighed-times}
+use Rattle.realisations.proofs.TuplesOfPoints.{length-points_over}
 use Rattle.hopf_laws.specs.Bases.{AreBuilt, least_limit}
 use Rattle.hopf_laws.specs.Values.{Expansion, IsValue, reading_of, degree_of_value}
 use Rattle.basis_routes.proofs.Degrees.{degree-le-greatest, degree_within}
@@ -87,12 +89,12 @@ weighed-tensor bases bases' ts us ps h long =
 
 -- and reads as the tensor product
 pub tensor_reads : (a b : Expansion) (c : Combination) → IsValue a → IsTensor a.combination b.combination c
-    → (ps : Codes) → length ps ≡ length (a.bases ++ b.bases) → AgreeAt (leaf (a.bases ++ b.bases) c.den c.terms) (tensor (reading_of a) (reading_of b)) ps
-tensor_reads a b c ha is ps long =
+    → (ps : Codes) → ArePoints (map kind_of (a.bases ++ b.bases)) ps → AgreeAt (leaf (a.bases ++ b.bases) c.den c.terms) (tensor (reading_of a) (reading_of b)) ps
+tensor_reads a b c ha is ps points =
     let bases = a.bases in
     let bases' = b.bases in
     let terms : AreTerms (length bases) a.combination.terms = subst (λ n. AreTerms n a.combination.terms) (ha.rank) ha.canonical.ordered in
-    let size : length ps ≡ length bases + length bases' = omega (arith, long, length-append a.bases b.bases) in
+    let size : length ps ≡ length bases + length bases' = omega (arith, length-points_over (a.bases ++ b.bases) ps points, length-append a.bases b.bases) in
     let kinds : length bases ≡ length (map kind_of bases) = sym (length-map bases kind_of) in
     ap (λ z. numerator (leaf (bases ++ bases') c.den c.terms) ps *ℤ z) (sym (pos-*ℤ-pos a.combination.den b.combination.den))
     ∙ is.weighs (λ key. pos (occurrence (bases ++ bases') key ps))

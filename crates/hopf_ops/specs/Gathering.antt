@@ -1,8 +1,10 @@
 -- The product of two combinations over the same bases, without their denominators.
-use Rattle.std.specs.Prelude.{◌≡◌, ℕ, ◌+◌, ◌*◌, ◌^◌, ◌<◌, ◌≤◌, ◌⊎◌, ℤ, ◌+ℤ◌, ◌*ℤ◌, List, length, take, unsigned_abs}
+use Rattle.std.specs.Prelude.{◌≡◌, ℕ, ◌+◌, ◌*◌, ◌^◌, ◌<◌, ◌≤◌, ◌⊎◌, ℤ, ◌+ℤ◌, ◌*ℤ◌, List, length, map, take, unsigned_abs}
 use Rattle.realisations.specs.Answers.{IsAnswer}
 use Rattle.realisations.specs.Combinations.{Combination, IsCanonical, HasKey, norm_of, term_at, weighed}
 use Rattle.realisations.specs.Indices.{AreIndices, total_degree}
+use Rattle.realisations.specs.Bases.{kind_of}
+use Rattle.realisations.specs.Points.{ArePoints}
 use Rattle.realisations.specs.Readings.{Terms, leaf, product, of_key, numerator}
 use Rattle.basis_names.specs.declared.bases.BasisId.{BasisId}
 use Rattle.hopf_laws.specs.Bases.{AreBuilt, least_limit}
@@ -19,7 +21,7 @@ pub record IsGathered (bases : List BasisId) (n : ℕ) (a b c : Combination) : T
   pub whole : c.den ≡ 1
   pub over : IsOfIndices bases c
   pub degrees : (key : List (List ℕ)) → HasKey c.terms key → total_degree bases key ≤ n
-  pub reads : (ps : List (List ℕ)) → length ps ≡ length bases →
+  pub reads : (ps : List (List ℕ)) → ArePoints (map kind_of bases) ps →
       numerator (leaf bases 1 c.terms) ps ≡ numerator (product (leaf bases a.den a.terms) (leaf bases b.den b.terms)) ps
 
 -- two keys are indices of these built bases, and the degree of their product is within the least limit
@@ -62,7 +64,7 @@ pub record AreGathered (bases : List BasisId) (ts us : Terms) (i j : ℕ) (c : C
   pub indices : (key : List (List ℕ)) → HasKey c.terms key → AreIndices bases key
   pub degrees : (key : List (List ℕ)) → HasKey c.terms key → total_degree bases key ≤ degree_of_product bases ts us
   pub norm : norm_of c.terms ≤ (norm_of (take i ts) * norm_of us + unsigned_abs (term_at ts i).0 * norm_of (take j us)) * 2 ^ (5 * degree_of_product bases ts us)
-  pub reads : (ps : List (List ℕ)) → length ps ≡ length bases →
+  pub reads : (ps : List (List ℕ)) → ArePoints (map kind_of bases) ps →
       numerator (leaf bases 1 c.terms) ps
       ≡ weighed (λ k. weighed (λ l. numerator (product (of_key bases k) (of_key bases l)) ps) us) (take i ts)
       +ℤ ((term_at ts i).0 *ℤ weighed (λ l. numerator (product (of_key bases ((term_at ts i).1)) (of_key bases l)) ps) (take j us))

@@ -1,14 +1,14 @@
 -- Agreement of readings at points is an equivalence, and each operation on readings respects it.
 use Rattle.std.proofs.Common.{◌≡◌, ℕ, ◌*◌, ◌≤◌, List, [], ◌∷◌, length, map, take, drop, refl, sym, ◌∙◌, ap, arith}
-use Rattle.std.specs.List.{flat_map, All}
+use Rattle.std.specs.List.{AllByRecursion}
 use Rattle.std.proofs.Math.IntN.{ℤ, pos, ◌+ℤ◌, ◌*ℤ◌, *ℤ_comm, zero-*ℤ, pos-*ℤ-pos}
 use Rattle.std.proofs.lemmas.Int.{ints}
-use Rattle.std.proofs.lemmas.List.Elements.{All-nil, All-cons, All-head, All-tail, All-append, All-map, All-weaker}
 use Rattle.hopf_num.proofs.Ring.{+ℤ-*ℤ, *ℤ_assoc, *ℤ-pos_cancel}
 use Rattle.realisations.specs.Lists.{int_sum}
-use Rattle.realisations.specs.Points.{Kind}
-use Rattle.realisations.specs.Readings.{Reading, product, tensor, sum_of, multiple, kinds_of, cuts, all_cuts, numerator, denominator, AgreeAt}
+use Rattle.realisations.specs.Points.{Kind, ArePoints}
+use Rattle.realisations.specs.Readings.{Reading, product, tensor, sum_of, multiple, kinds_of, all_cuts, numerator, denominator, AgreeAt}
 use Rattle.realisations.proofs.Coefficients.{Codes}
+use Rattle.realisations.proofs.PointsOfReadings.{cuts_of_points}
 
 -- the last two factors of three change places
 pub times_turned : (a b c : ℤ) → (a *ℤ b) *ℤ c ≡ (a *ℤ c) *ℤ b
@@ -27,31 +27,11 @@ products_same x x' y y' m m' n n' left right =
     factor_by_factor x y m' n' ∙ ap (λ z. z *ℤ (y *ℤ pos n')) left ∙ ap (λ z. (x' *ℤ pos m) *ℤ z) right ∙ sym (factor_by_factor x' y' m n)
 
 -- sums that are the same over two denominators, term by term
-sums_agree : {X : Type 0} (f g : X → ℤ) (k l : ℤ) (xs : List X) → All (λ x. f x *ℤ k ≡ g x *ℤ l) xs → int_sum (map f xs) *ℤ k ≡ int_sum (map g xs) *ℤ l
-sums_agree f g k l [] each = zero-*ℤ k ∙ sym (zero-*ℤ l)
-sums_agree {X} f g k l (x ∷ xs) each =
-    let P = λ (y : X). f y *ℤ k ≡ g y *ℤ l in
-    omega (arith, ints, +ℤ-*ℤ (f x) (int_sum (map f xs)) k, +ℤ-*ℤ (g x) (int_sum (map g xs)) l, All-head P x xs each, sums_agree f g k l xs (All-tail P x xs each))
-
--- what each element of each part has, each element of all parts together has
-All-flat_map : {X Y : Type 0} (P : Y → Type 0) (f : X → List Y) (xs : List X) → ((x : X) → All P (f x)) → All P (flat_map f xs)
-All-flat_map P f [] each = All-nil P
-All-flat_map P f (x ∷ xs) each = All-append P (f x) (flat_map f xs) (each x) (All-flat_map P f xs each)
-
--- a pair of tuples of n points each
-abbrev ArePoints : ℕ → Codes × Codes → Type 0
-ArePoints n c = (length c.0 ≡ n) × (length c.1 ≡ n)
-
--- both parts of each cut have a point for each component
-all_cuts-points : (kinds : List Kind) (ps : Codes) → All (ArePoints (length kinds)) (all_cuts kinds ps)
-all_cuts-points [] ps = All-cons (ArePoints 0) ([], []) [] (refl, refl) (All-nil (ArePoints 0))
-all_cuts-points (kind ∷ kinds) [] = All-nil (ArePoints (length (kind ∷ kinds)))
-all_cuts-points (kind ∷ kinds) (p ∷ ps) =
-    let P = ArePoints (length (kind ∷ kinds)) in
-    All-flat_map P (λ (c : List ℕ × List ℕ). map (λ (d : Codes × Codes). (c.0 ∷ d.0, c.1 ∷ d.1)) (all_cuts kinds ps)) (cuts kind p)
-    (λ c. All-map P (λ (d : Codes × Codes). (c.0 ∷ d.0, c.1 ∷ d.1)) (all_cuts kinds ps)
-    (All-weaker (ArePoints (length kinds)) (λ (d : Codes × Codes). P (c.0 ∷ d.0, c.1 ∷ d.1)) (λ d long. (omega (arith, long.0), omega (arith, long.1)))
-    (all_cuts kinds ps) (all_cuts-points kinds ps)))
+sums_agree : {X : Type 0} (P : X → Type 0) (f g : X → ℤ) (k l : ℤ) → ((x : X) → P x → f x *ℤ k ≡ g x *ℤ l) → (xs : List X) → AllByRecursion P xs
+    → int_sum (map f xs) *ℤ k ≡ int_sum (map g xs) *ℤ l
+sums_agree P f g k l same [] h = zero-*ℤ k ∙ sym (zero-*ℤ l)
+sums_agree P f g k l same (x ∷ xs) h =
+    omega (arith, ints, +ℤ-*ℤ (f x) (int_sum (map f xs)) k, +ℤ-*ℤ (g x) (int_sum (map g xs)) l, same x h.0, sums_agree P f g k l same xs h.1)
 
 -- a reading agrees with itself
 pub agree_refl : (a : Reading) (ps : List (List ℕ)) → AgreeAt a a ps
@@ -105,20 +85,19 @@ tensor_agrees a a' b b' ps kinds left right =
     products_same (numerator a (first at)) (numerator a' (first at)) (numerator b (rest at)) (numerator b' (rest at)) (denominator a) (denominator a') (denominator b) (denominator b') left right
     ∙ ap (λ (ks : List Kind). (numerator a' (first (length ks)) *ℤ numerator b' (rest (length ks))) *ℤ pos (denominator a * denominator b)) kinds
 
--- products of readings that agree at all tuples with a point for each component
-pub product_agrees : (a a' b b' : Reading) (ps : List (List ℕ)) → kinds_of a ≡ kinds_of a'
-    → ((qs : List (List ℕ)) → length qs ≡ length (kinds_of a) → AgreeAt a a' qs)
-    → ((qs : List (List ℕ)) → length qs ≡ length (kinds_of a) → AgreeAt b b' qs)
+-- products of readings that agree at all points
+pub product_agrees : (a a' b b' : Reading) (ps : List (List ℕ)) → kinds_of a ≡ kinds_of a' → ArePoints (kinds_of a) ps
+    → ((qs : List (List ℕ)) → ArePoints (kinds_of a) qs → AgreeAt a a' qs)
+    → ((qs : List (List ℕ)) → ArePoints (kinds_of a) qs → AgreeAt b b' qs)
     → AgreeAt (product a b) (product a' b') ps
-product_agrees a a' b b' ps kinds left right =
+product_agrees a a' b b' ps kinds points left right =
     let f = λ (c : Codes × Codes). numerator a c.0 *ℤ numerator b c.1 in
     let g = λ (c : Codes × Codes). numerator a' c.0 *ℤ numerator b' c.1 in
     let over = pos (denominator a * denominator b) in
     let over' = pos (denominator a' * denominator b') in
-    sums_agree f g over' over (all_cuts (kinds_of a) ps)
-    (All-weaker (ArePoints (length (kinds_of a))) (λ (c : Codes × Codes). f c *ℤ over' ≡ g c *ℤ over)
-    (λ c long.
+    sums_agree (λ (c : Codes × Codes). ArePoints (kinds_of a) c.0 × ArePoints (kinds_of a) c.1) f g over' over
+    (λ c both.
     products_same (numerator a c.0) (numerator a' c.0) (numerator b c.1) (numerator b' c.1) (denominator a) (denominator a') (denominator b) (denominator b')
-    (left c.0 long.0) (right c.1 long.1))
-    (all_cuts (kinds_of a) ps) (all_cuts-points (kinds_of a) ps))
+    (left c.0 both.0) (right c.1 both.1))
+    (all_cuts (kinds_of a) ps) (cuts_of_points (kinds_of a) ps points)
     ∙ ap (λ (ks : List Kind). int_sum (map g (all_cuts ks ps)) *ℤ over) kinds

@@ -1,13 +1,13 @@
 pub mod Agreement
-pub mod ClassBases
 pub mod Coefficients
 pub mod DescentCompositions
+pub mod Every
 pub mod KeyOrders
 pub mod Linearity
 pub mod NondecreasingWords
-pub mod OnePoint
 pub mod Packing
 pub mod Pattern
+pub mod PointsOfReadings
 pub mod RisingMaps
 pub mod Sums
-pub mod Uniqueness
+pub mod TuplesOfPoints

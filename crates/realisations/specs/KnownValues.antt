@@ -215,6 +215,13 @@ antipode_m_21-at-12 = refl
 pub antipode_m_21-at-21 : numerator (applied antipode 0 (element QsymM (2 ∷ 1 ∷ []))) ((2 ∷ 1 ∷ []) ∷ []) ≡ pos 0
 antipode_m_21-at-21 = refl
 
+-- letters of points are at least 1: a letter 0 would not be raised above itself, and the coproduct of G of 12 would be 2 there
+pub coproduct_g_12-at-1-1 : numerator (applied coproduct 0 (element FqsymG (1 ∷ 2 ∷ []))) ((1 ∷ []) ∷ (1 ∷ []) ∷ []) ≡ pos 1
+coproduct_g_12-at-1-1 = refl
+
+pub coproduct_g_12-at-0-0 : numerator (applied coproduct 0 (element FqsymG (1 ∷ 2 ∷ []))) ((0 ∷ []) ∷ (0 ∷ []) ∷ []) ≡ pos 2
+coproduct_g_12-at-0-0 = refl
+
 -- the antipode of an element of degree 0, and in the second of two components
 pub antipode_g_empty : numerator (applied antipode 0 (element FqsymG [])) ([] ∷ []) ≡ pos 1
 antipode_g_empty = refl

@@ -1,15 +1,13 @@
 -- Laws of combinations and their readings. Public functions with empty bodies ensure them (`src/laws.rt`).
-use Rattle.std.specs.Prelude.{◌≡◌, ℕ, ℤ, ◌+ℤ◌, ◌*ℤ◌, List, length, map}
-use Rattle.std.specs.List.{sum}
+use Rattle.std.specs.Prelude.{◌≡◌, ℕ, zero, suc, ℤ, ◌+ℤ◌, ◌*ℤ◌, List, [], ◌∷◌, length, map}
+use Rattle.std.specs.List.{AllByRecursion, sum}
 use Rattle.realisations.specs.Descents.{descents, descent_composition, descent_set}
 use Rattle.basis_names.specs.declared.bases.BasisId.{BasisId}
-use Rattle.basis_names.specs.declared.bases.BasisId.TheVariants.{QsymM}
 use Rattle.realisations.specs.Bases.{kind_of}
-use Rattle.realisations.specs.Points.{patterns}
-use Rattle.realisations.specs.ClassBases.{IsClassBasis, AreClassBases, representatives}
-use Rattle.realisations.specs.Indices.{AreIndices}
-use Rattle.realisations.specs.Readings.{Terms, Operation, leaf, applied, product, numerator, of_key, AgreeAt}
-use Rattle.realisations.specs.Combinations.{Combination, IsCanonical, AddsTerm, HasKey, weighed}
+use Rattle.realisations.specs.Points.{Kind, ArePoints, patterns}
+use Rattle.realisations.specs.Pairings.{paired_tuples}
+use Rattle.realisations.specs.Readings.{Terms, Operation, mult, leaf, applied, product, numerator, of_key, all_cuts, kinds_after_at, reads_at}
+use Rattle.realisations.specs.Combinations.{AddsTerm, weighed}
 
 -- the descent composition of a word is the composition of its length whose proper partial sums are the places of its descents
 abbrev pub DescentLaw : Type 0
@@ -42,17 +40,16 @@ BilinearityLaw = (bases : List BasisId) (d e : ℕ) (ts us : Terms) (ps : List (
     numerator (product (leaf bases d ts) (leaf bases e us)) ps
     ≡ weighed (λ key. weighed (λ key'. numerator (product (of_key bases key) (of_key bases key')) ps) us) ts
 
--- the monomial quasi-symmetric functions are a class basis
-abbrev pub ClassLaw : Type 0
-ClassLaw = IsClassBasis QsymM
+-- the component, counted from 0, has a next one, and both are of the same kind
+abbrev pub IsDoubled : ℕ → List Kind → Type 0
+IsDoubled n [] = ⊥
+IsDoubled zero (kind ∷ []) = ⊥
+IsDoubled zero (kind ∷ next ∷ kinds) = kind ≡ next
+IsDoubled (suc n) (kind ∷ kinds) = IsDoubled n kinds
 
--- canonical combinations over class bases that agree at all tuples of representatives are the same
-abbrev pub UniquenessLaw : Type 0
-UniquenessLaw = (bases : List BasisId) (classes : AreClassBases bases) (c d : Combination) →
-    IsCanonical c.rank c.den c.terms → IsCanonical d.rank d.den d.terms →
-    c.rank ≡ length bases → d.rank ≡ length bases →
-    ((key : List (List ℕ)) → HasKey c.terms key → AreIndices bases key) →
-    ((key : List (List ℕ)) → HasKey d.terms key → AreIndices bases key) →
-    ((key : List (List ℕ)) (h : AreIndices bases key) →
-    AgreeAt (leaf bases c.den c.terms) (leaf bases d.den d.terms) (representatives bases classes key h)) →
-    c ≡ d
+-- at points, products read their factors at points, and operations their operand; so do pairings. Of these the product of two components is one of the same kind
+pub record PointsLaw : Type 0 where
+  pub products : (kinds : List Kind) (ps : List (List ℕ)) → ArePoints kinds ps → AllByRecursion (λ c. ArePoints kinds c.0 × ArePoints kinds c.1) (all_cuts kinds ps)
+  pub operations : (operation : Operation) (n : ℕ) (kinds : List Kind) (ps : List (List ℕ)) → (operation ≡ mult → IsDoubled n kinds) →
+      ArePoints (kinds_after_at n operation kinds) ps → AllByRecursion (λ r. ArePoints kinds r.1) (reads_at n operation kinds ps)
+  pub pairings : (n : ℕ) (kinds kinds' : List Kind) → AllByRecursion (λ t. ArePoints kinds t.1 × ArePoints kinds' t.2) (paired_tuples n kinds kinds')

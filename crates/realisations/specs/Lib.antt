@@ -1,6 +1,5 @@
 pub mod Answers
 pub mod Bases
-pub mod ClassBases
 pub mod Combinations
 pub mod Descents
 pub mod Exponents

@@ -1,11 +1,24 @@
 -- Points: where combinations are read, one for each component.
-use Rattle.std.specs.Prelude.{ℕ, List, [], ◌∷◌}
+use Rattle.std.specs.Prelude.{ℕ, ◌≤◌, List, [], ◌∷◌}
+use Rattle.std.specs.List.{AllByRecursion}
 use Rattle.realisations.specs.Exponents.{without_zeros}
 use Rattle.realisations.specs.Standardisation.{pack}
 
 -- the points of an algebra: exponents for quasi-symmetric functions, and else words
 pub data Kind : Type 0 where
   exponents word : Kind
+
+-- a point of a kind: any exponents, as of a monomial; a word over the ordered alphabet 1 < 2 < .., so that a letter raised by the greatest letter of another word is above it
+abbrev pub IsPoint : Kind → List ℕ → Type 0
+IsPoint exponents p = Unit {0}
+IsPoint word p = AllByRecursion (λ x. 1 ≤ x) p
+
+-- a tuple of points, one of each kind
+abbrev pub ArePoints : List Kind → List (List ℕ) → Type 0
+ArePoints [] [] = Unit {0}
+ArePoints [] (p ∷ ps) = ⊥
+ArePoints (kind ∷ kinds) [] = ⊥
+ArePoints (kind ∷ kinds) (p ∷ ps) = IsPoint kind p × ArePoints kinds ps
 
 -- the pattern of a point, all that basis elements see of it: the exponents that are not 0 (Gessel 1984), or the packed word
 abbrev pub pattern : Kind → List ℕ → List ℕ

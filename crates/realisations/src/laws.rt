@@ -1,6 +1,6 @@
 //! Laws of combinations and their readings. A function here computes nothing: callers cite its
 //! clause.
-ghost use Rattle.realisations.specs.Laws.{DescentLaw, PatternLaw, LinearityLaw, OperationLaw, GatheringLaw, BilinearityLaw, ClassLaw, UniquenessLaw};
+ghost use Rattle.realisations.specs.Laws.{DescentLaw, PatternLaw, LinearityLaw, OperationLaw, GatheringLaw, BilinearityLaw, PointsLaw};
 
 /// The descent composition of a word is the composition of its length whose proper partial sums are
 /// the places of its descents (Gelfand, Krob, Lascoux, Leclerc, Retakh, Thibon 1995).
@@ -52,19 +52,11 @@ pub fn bilinearity_law()
     ensures { BilinearityLaw }
 {}
 
-/// The monomial quasi-symmetric functions are a class basis: each composition has a point, itself as
-/// exponents, at which its function occurs and no other one does (Gessel 1984).
+/// At points, the product of two components of one kind, every other operation, products and pairings
+/// read their operands at points: words stay words over 1 < 2 < .. when they are cut, shuffled, each
+/// above those before, or listed with given numbers of letters.
 ///
 /// Nothing is computed: callers cite the clause.
-pub fn class_law()
-    ensures { ClassLaw }
-{}
-
-/// Combinations in canonical form are unique: over one list of class bases, two of them that agree
-/// at all tuples of representatives are equal, denominators and all.
-///
-/// For quasi-symmetric functions it is that the monomial ones are linearly independent (Gessel
-/// 1984). Nothing is computed: callers cite the clause.
-pub fn uniqueness_law()
-    ensures { UniquenessLaw }
+pub fn points_law()
+    ensures { PointsLaw }
 {}

@@ -8,6 +8,6 @@
 mod laws;
 
 pub use laws::{
-    bilinearity_law, class_law, descent_law, gathering_law, linearity_law, operation_law,
-    pattern_law, uniqueness_law,
+    bilinearity_law, descent_law, gathering_law, linearity_law, operation_law, pattern_law,
+    points_law,
 };

@@ -9,9 +9,10 @@ use Rattle.std.proofs.lemmas.List.Elements.{All-tail}
 use Rattle.std.proofs.lemmas.List.{length-map, length-append, length-take, length-drop, map-append}
 use Rattle.hopf_num.specs.Fractions.{Ratio, reciprocal}
 use Rattle.hopf_num.proofs.Reciprocals.{reciprocal_agrees, ratio_nonzero}
-use Rattle.realisations.specs.Points.{Kind}
+use Rattle.realisations.specs.Points.{Kind, ArePoints}
 use Rattle.realisations.specs.Bases.{kind_of}
 use Rattle.realisations.specs.Readings.{Reading, element, product, tensor, sum_of, multiple, kinds_of, denominator, AgreeAt}
+use Rattle.realisations.proofs.TuplesOfPoints.{points_split}
 use Rattle.realisations.proofs.Agreement.{agree_trans, sum_agrees, multiple_agrees, tensor_agrees, product_agrees}
 use Rattle.basis_names.specs.declared.bases.BasisId.{BasisId}
 use Rattle.hopf_laws.specs.Bases.{least_limit}
@@ -35,12 +36,12 @@ use Rattle.session_evaluation.specs.Meaning.{number, negative, ratio, is_scalar,
 use Rattle.session_evaluation.proofs.KnownNames.{known_value}
 use Rattle.session_grammar.specs.declared.expression.Expr.TheVariants as e
 
--- readings with the same kinds and positive denominators that agree at all tuples with a point for each component
+-- readings with the same kinds and positive denominators that agree at all points
 pub record Alike (q r : Reading) : Type 0 where
   pub kinds : kinds_of q ≡ kinds_of r
   pub left : 1 ≤ denominator q
   pub right : 1 ≤ denominator r
-  pub agree : (ps : List (List ℕ)) → length ps ≡ length (kinds_of q) → AgreeAt q r ps
+  pub agree : (ps : List (List ℕ)) → ArePoints (kinds_of q) ps → AgreeAt q r ps
 
 -- a product of positive numbers is positive
 positive_product : (m n : ℕ) → 1 ≤ m → 1 ≤ n → 1 ≤ m * n
@@ -54,7 +55,7 @@ nonzero_abs (negsuc n) some = omega arith
 
 -- a reading is like itself
 alike_refl : (q : Reading) → 1 ≤ denominator q → Alike q q
-alike_refl q positive = record { kinds = refl; left = positive; right = positive; agree = λ ps long. refl }
+alike_refl q positive = record { kinds = refl; left = positive; right = positive; agree = λ ps points. refl }
 
 -- readings like a third one are alike
 alike_trans : (q r s : Reading) → Alike q r → Alike r s → Alike q s
@@ -62,7 +63,7 @@ alike_trans q r s first second = record {
   kinds = first.kinds ∙ second.kinds;
   left = first.left;
   right = second.right;
-  agree = λ ps long. agree_trans q r s ps first.right (first.agree ps long) (second.agree ps (long ∙ ap (λ (ks : List Kind). length ks) first.kinds));
+  agree = λ ps points. agree_trans q r s ps first.right (first.agree ps points) (second.agree ps (subst (λ (ks : List Kind). ArePoints ks ps) first.kinds points));
 }
 
 -- sums of readings that are alike
@@ -71,7 +72,7 @@ sums_alike a a' b b' kinds first second = record {
   kinds = first.kinds;
   left = positive_product (denominator a) (denominator b) first.left second.left;
   right = positive_product (denominator a') (denominator b') first.right second.right;
-  agree = λ ps long. sum_agrees a a' b b' ps (first.agree ps long) (second.agree ps (long ∙ ap (λ (ks : List Kind). length ks) kinds));
+  agree = λ ps points. sum_agrees a a' b b' ps (first.agree ps points) (second.agree ps (subst (λ (ks : List Kind). ArePoints ks ps) kinds points));
 }
 
 -- multiples of readings that are alike, by ratios that are the same
@@ -81,7 +82,7 @@ multiples_alike num num' den den' a a' left right same alike = record {
   kinds = alike.kinds;
   left = positive_product den (denominator a) left alike.left;
   right = positive_product den' (denominator a') right alike.right;
-  agree = λ ps long. multiple_agrees num num' den den' a a' ps same (alike.agree ps long);
+  agree = λ ps points. multiple_agrees num num' den den' a a' ps same (alike.agree ps points);
 }
 
 -- negatives of readings that are alike
@@ -94,12 +95,10 @@ tensors_alike a a' b b' first second = record {
   kinds = λ i. first.kinds i ++ second.kinds i;
   left = positive_product (denominator a) (denominator b) first.left second.left;
   right = positive_product (denominator a') (denominator b') first.right second.right;
-  agree = λ ps long.
+  agree = λ ps points.
       let k : ℕ = length (kinds_of a) in
-      let whole : length ps ≡ k + length (kinds_of b) = long ∙ length-append (kinds_of a) (kinds_of b) in
-      let front : length (take k ps) ≡ k = omega (arith, whole, length-take k ps) in
-      let behind : length (drop k ps) ≡ length (kinds_of b) = omega (arith, whole, length-drop k ps) in
-      tensor_agrees a a' b b' ps first.kinds (first.agree (take k ps) front) (second.agree (drop k ps) behind);
+      let parts = points_split (kinds_of a) (kinds_of b) ps points in
+      tensor_agrees a a' b b' ps first.kinds (first.agree (take k ps) parts.0) (second.agree (drop k ps) parts.1);
 }
 
 -- products of readings that are alike
@@ -108,12 +107,17 @@ products_alike a a' b b' kinds first second = record {
   kinds = first.kinds;
   left = positive_product (denominator a) (denominator b) first.left second.left;
   right = positive_product (denominator a') (denominator b') first.right second.right;
-  agree = λ ps long. product_agrees a a' b b' ps first.kinds first.agree (λ qs long'. second.agree qs (long' ∙ ap (λ (ks : List Kind). length ks) kinds));
+  agree = λ ps points. product_agrees a a' b b' ps first.kinds points first.agree (λ qs points'. second.agree qs (subst (λ (ks : List Kind). ArePoints ks qs) kinds points'));
 }
 
 -- the kinds of a list of bases
 abbrev kinds_over : List BasisId → List Kind
 kinds_over bases = map kind_of bases
+
+-- where there are no bases, the empty tuple is one of points
+no_points : (bases : List BasisId) → length bases ≡ 0 → ArePoints (kinds_over bases) []
+no_points [] none = tt
+no_points (basis ∷ bases) none = absurd (omega arith)
 
 -- there is one kind for each basis
 length-kinds : (bases : List BasisId) → length (kinds_over bases) ≡ length bases
@@ -129,7 +133,7 @@ expands_alike bases q v kinds positive expands = record {
   kinds = ap kinds_over expands.over ∙ sym kinds;
   left = expands.value.canonical.lowest.positive;
   right = positive;
-  agree = λ ps long. expands.reads ps (long ∙ length-kinds v.bases ∙ ap (λ (bs : List BasisId). length bs) expands.over);
+  agree = λ ps points. expands.reads ps (subst (λ (bs : List BasisId). ArePoints (kinds_over bs) ps) expands.over points);
 }
 
 -- a reading like a value has one kind for each of its bases
@@ -200,7 +204,7 @@ over_alike : (a b v : Expansion) (ra rb : Reading) → Alike (reading_of a) ra �
 over_alike a b v ra rb first second none some expands =
     let by : Ratio = ratio_of b in
     let by' : Ratio = ratio rb in
-    let same : by.num *ℤ pos by'.den ≡ by'.num *ℤ pos by.den = second.agree [] (sym (length-kinds b.bases ∙ none)) in
+    let same : by.num *ℤ pos by'.den ≡ by'.num *ℤ pos by.den = second.agree [] (no_points b.bases none) in
     let some' : by'.num ≢ pos 0 = ratio_nonzero by by' second.left second.right same some in
     answer_alike a.bases (quotient_of a b) (combined Over ra rb) v refl
     (multiples_alike (reciprocal by).num (reciprocal by').num (reciprocal by).den (reciprocal by').den (reading_of a) ra
@@ -224,7 +228,7 @@ number_alike zero = record {
   kinds = refl;
   left = omega arith;
   right = omega arith;
-  agree = λ ps long. omega (arith, ints);
+  agree = λ ps points. omega (arith, ints);
 }
 number_alike (suc n) = alike_refl (number (suc n)) (omega arith)
 
@@ -322,5 +326,5 @@ meant names x v values evaluates =
       meaning = found.0;
       means = found.1;
       positive = found.2.right;
-      reads = λ ps long. found.2.agree ps (long ∙ sym (length-kinds v.bases));
+      reads = λ ps points. found.2.agree ps points;
     }

@@ -1,7 +1,7 @@
 -- An expression has one meaning, and what it means decides its value.
-use Rattle.std.proofs.Common.{◌≡◌, ℕ, Ok, Some, List, [], ◌∷◌, length, refl, sym, ◌∙◌, ap, subst}
-use Rattle.std.proofs.lemmas.List.{length-map}
-use Rattle.realisations.specs.Readings.{Reading, element, AgreeAt}
+use Rattle.std.proofs.Common.{◌≡◌, ℕ, Ok, Some, List, [], ◌∷◌, map, refl, sym, ◌∙◌, ap, subst}
+use Rattle.realisations.specs.Points.{ArePoints}
+use Rattle.realisations.specs.Readings.{Reading, element}
 use Rattle.realisations.specs.Bases.{kind_of}
 use Rattle.realisations.proofs.Agreement.{agree_refl, agree_trans}
 use Rattle.basis_names.specs.declared.bases.BasisId.{BasisId}
@@ -139,10 +139,6 @@ means_alike names x v r values evaluates means =
     let found : (m : Reading) × Means names x m × Alike (reading_of v) m = answer_meant values evaluates in
     subst (λ (m : Reading). Alike (reading_of v) m) (means_once names x found.0 r found.1 means) found.2
 
--- What a value is like, it agrees with at each tuple that has a point for each of its bases.
-alike_at : (v : Expansion) (r : Reading) (ps : List (List ℕ)) → Alike (reading_of v) r → length ps ≡ length v.bases → AgreeAt (reading_of v) r ps
-alike_at v r ps alike long = alike.agree ps (long ∙ sym (length-map v.bases kind_of))
-
 -- Expressions that mean the same, and have values over the same bases, have the same value.
 pub same_meaning : SameMeaning
 same_meaning names names' x y v w r s values values' built built' evaluates evaluates' means means' over agree =
@@ -151,13 +147,13 @@ same_meaning names names' x y v w r s values values' built built' evaluates eval
     let this : Expands v.bases (reading_of w) v = record {
       value = evaluated_value names x v values built evaluates;
       over = refl;
-      reads = λ ps long.
-          agree_trans (reading_of v) r (reading_of w) ps first.right (alike_at v r ps first long)
-          (agree_trans r s (reading_of w) ps second.right (agree ps long) (sym (alike_at w s ps second (long ∙ ap (λ (bs : List BasisId). length bs) over))));
+      reads = λ ps points.
+          agree_trans (reading_of v) r (reading_of w) ps first.right (first.agree ps points)
+          (agree_trans r s (reading_of w) ps second.right (agree ps points) (sym (second.agree ps (subst (λ (bs : List BasisId). ArePoints (map kind_of bs) ps) over points))));
     } in
     let that : Expands v.bases (reading_of w) w = record {
       value = evaluated_value names' y w values' built' evaluates';
       over = sym over;
-      reads = λ ps long. agree_refl (reading_of w) ps;
+      reads = λ ps points. agree_refl (reading_of w) ps;
     } in
     expands_once v.bases (reading_of w) v w second.left this that

@@ -1,6 +1,8 @@
 -- What an expression means: a reading, whatever bases its parts were entered in.
-use Rattle.std.specs.Prelude.{◌≡◌, ◌≤◌, ℕ, pos, negsuc, Bool, List, [], ◌∷◌, ◌||◌, Some, length, nat_eq, if◌then◌else◌}
+use Rattle.std.specs.Prelude.{◌≡◌, ◌≤◌, ℕ, pos, negsuc, Bool, List, [], ◌∷◌, ◌||◌, Some, length, map, nat_eq, if◌then◌else◌}
 use Rattle.hopf_num.specs.Fractions.{Ratio, reciprocal}
+use Rattle.realisations.specs.Bases.{kind_of}
+use Rattle.realisations.specs.Points.{ArePoints}
 use Rattle.realisations.specs.Readings.{Reading, leaf, element, product, tensor, sum_of, multiple, kinds_of, numerator, denominator, AgreeAt}
 use Rattle.basis_names.specs.declared.bases.BasisId.{BasisId}
 use Rattle.session_tokens.specs.declared.lexeme.Lexeme.{Lexeme}
@@ -65,4 +67,4 @@ pub record IsMeant (names : Names) (x : Expr) (v : Expansion) : Type 0 where
   pub meaning : Reading
   pub means : Means names x meaning
   pub positive : 1 ≤ denominator meaning
-  pub reads : (ps : List (List ℕ)) → length ps ≡ length v.bases → AgreeAt (reading_of v) meaning ps
+  pub reads : (ps : List (List ℕ)) → ArePoints (map kind_of v.bases) ps → AgreeAt (reading_of v) meaning ps

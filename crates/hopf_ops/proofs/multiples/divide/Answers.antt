@@ -53,4 +53,4 @@ returns-clause-value c =
     subst (λ (r : Ratio). IfOk c.scale.result (IsMultiple a.combination r)) by (rw (← c.combo.ensures.combination) c.scale.ensures.multiple) in
     answer_expands (IsMultiple a.combination (reciprocal (ratio_of b))) a.bases (quotient_of a b) c.scale.result c.over_bases.result
     (subst (λ bases. IsAnswerOver bases c.scale.result c.over_bases.result) (c.copy.ensures ∙ c.bases.ensures.bases) c.over_bases.ensures.answer) multiple c.over_bases.ensures.value
-    (λ s is ps long. multiple_reads a (reciprocal (ratio_of b)) s is ps)
+    (λ s is ps points. multiple_reads a (reciprocal (ratio_of b)) s is ps)

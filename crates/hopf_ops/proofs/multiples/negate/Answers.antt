@@ -26,4 +26,4 @@ returns-clause-value c =
     let multiple : IfOk c.scale.result (IsMultiple a.combination sign) = rw (← c.combo.ensures.combination, ← c.minus_one.ensures) c.scale.ensures.multiple in
     answer_expands (IsMultiple a.combination sign) a.bases (negation_of a) c.scale.result c.over_bases.result
     (subst (λ bases. IsAnswerOver bases c.scale.result c.over_bases.result) (c.copy.ensures ∙ c.bases.ensures.bases) c.over_bases.ensures.answer) multiple c.over_bases.ensures.value
-    (λ s is ps long. multiple_reads a sign s is ps)
+    (λ s is ps points. multiple_reads a sign s is ps)

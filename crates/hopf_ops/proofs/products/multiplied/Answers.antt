@@ -52,11 +52,11 @@ returns-clause-value c =
     record {
       value = value;
       over = ap (λ (v : Expansion). v.bases) c.over-2.ensures;
-      reads = λ ps long.
+      reads = λ ps points.
           subst (λ (v : Expansion). AgreeAt (reading_of v) (product (reading_of a) (reading_of b)) ps) (sym c.over-2.ensures)
           (subst (λ (v : Expansion). AgreeAt (leaf bases c.over.result.den c.over.result.terms) (product (reading_of v) (reading_of b)) ps)
           (λ i. record { bases = sym c.requires.left i; combination = c.combo.ensures.combination i })
           (subst (λ (v : Expansion). AgreeAt (leaf bases c.over.result.den c.over.result.terms) (product (leaf bases x.den x.terms) (reading_of v)) ps)
           (λ i. record { bases = sym c.requires.right i; combination = c.combo-2.ensures.combination i })
-          (gathered_reads bases _ x y c.in-Ok.product c.over.result c.in-Ok.ensures over ps long)));
+          (gathered_reads bases _ x y c.in-Ok.product c.over.result c.in-Ok.ensures over ps points)));
     }

@@ -54,4 +54,4 @@ returns-clause-value c =
     let sum : IfOk c.plus_or_minus.result (IsSumOrDifference c.args.minus a.combination b.combination) = rw (← c.combo.ensures.combination, ← c.combo-2.ensures.combination) c.plus_or_minus.ensures.sum in
     answer_expands (IsSumOrDifference c.args.minus a.combination b.combination) (joined a.bases b.bases) (sum_or_difference_of c.args.minus a b) c.plus_or_minus.result c.over_bases.result
     (subst (λ bases. IsAnswerOver bases c.plus_or_minus.result c.over_bases.result) c.in_ok-bases.ensures.value c.over_bases.ensures.answer) sum c.over_bases.ensures.value
-    (λ s is ps long. sum_reads c.args.minus a b s c.combo.ensures.value c.combo-2.ensures.value (same_rank _ a b pass) is ps)
+    (λ s is ps points. sum_reads c.args.minus a b s c.combo.ensures.value c.combo-2.ensures.value (same_rank _ a b pass) is ps)

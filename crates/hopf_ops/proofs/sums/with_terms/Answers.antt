@@ -68,4 +68,4 @@ returns-clause-value c =
     let sum : IfOk c.with_terms_of.result (IsSumOrDifference c.args.minus a.combination b.combination) = rw (← c.into_parts-combo.ensures.combination, ← c.combo.ensures.combination) c.with_terms_of.ensures.sum in
     answer_expands (IsSumOrDifference c.args.minus a.combination b.combination) (joined a.bases b.bases) (sum_or_difference_of c.args.minus a b) c.with_terms_of.result c.over_bases.result
     (subst (λ bases. IsAnswerOver bases c.with_terms_of.result c.over_bases.result) c.in_ok-bases.ensures.value c.over_bases.ensures.answer) sum c.over_bases.ensures.value
-    (λ s is ps long. sum_reads c.args.minus a b s c.into_parts-combo.ensures.value c.combo.ensures.value (same_rank _ a b c.in_ok-bases.ensures.checks) is ps)
+    (λ s is ps points. sum_reads c.args.minus a b s c.into_parts-combo.ensures.value c.combo.ensures.value (same_rank _ a b c.in_ok-bases.ensures.checks) is ps)
