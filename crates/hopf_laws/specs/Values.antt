@@ -1,10 +1,11 @@
 -- Values: combinations over a list of bases.
 use Rattle.std.specs.Prelude.{◌≡◌, ℕ, ◌≤◌, max, List, [], ◌∷◌, length, map}
 use Rattle.hopf_num.specs.Fractions.{Ratio}
+use Rattle.realisations.specs.Codes.{Key}
 use Rattle.realisations.specs.Combinations.{Combination, IsCanonical, HasKey}
 use Rattle.realisations.specs.Indices.{AreIndices, total_degree}
 use Rattle.realisations.specs.Bases.{kind_of}
-use Rattle.realisations.specs.Points.{ArePoints}
+use Rattle.realisations.specs.Points.{ArePoints, Points}
 use Rattle.realisations.specs.Readings.{Terms, Reading, leaf, numerator, AgreeAt}
 use Rattle.basis_names.specs.declared.bases.BasisId.{BasisId}
 use Rattle.hopf_laws.specs.Bases.{AreBuilt, least_limit}
@@ -20,8 +21,8 @@ pub record IsValue (v : Expansion) : Type 0 where
   pub built : AreBuilt v.bases
   pub rank : v.combination.rank ≡ length v.bases
   pub canonical : IsCanonical v.combination.rank v.combination.den v.combination.terms
-  pub indices : (key : List (List ℕ)) → HasKey v.combination.terms key → AreIndices v.bases key
-  pub degrees : (key : List (List ℕ)) → HasKey v.combination.terms key → total_degree v.bases key ≤ least_limit v.bases
+  pub indices : (key : Key) → HasKey v.combination.terms key → AreIndices v.bases key
+  pub degrees : (key : Key) → HasKey v.combination.terms key → total_degree v.bases key ≤ least_limit v.bases
 
 -- what a value reads as
 abbrev pub reading_of : Expansion → Reading
@@ -44,4 +45,4 @@ degree_of_value v = greatest_degree v.bases v.combination.terms
 pub record Expands (bases : List BasisId) (reading : Reading) (v : Expansion) : Type 0 where
   pub value : IsValue v
   pub over : v.bases ≡ bases
-  pub reads : (ps : List (List ℕ)) → ArePoints (map kind_of bases) ps → AgreeAt (reading_of v) reading ps
+  pub reads : (ps : Points) → ArePoints (map kind_of bases) ps → AgreeAt (reading_of v) reading ps

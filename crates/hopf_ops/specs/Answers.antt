@@ -1,5 +1,6 @@
 -- From combinations to values.
-use Rattle.std.specs.Prelude.{◌≡◌, ℕ, ◌≤◌, Bool, true, false, List, length, Result, Ok, Err}
+use Rattle.std.specs.Prelude.{◌≡◌, ◌≤◌, Bool, true, false, List, length, Result, Ok, Err}
+use Rattle.realisations.specs.Codes.{Key}
 use Rattle.realisations.specs.Combinations.{Combination, HasKey}
 use Rattle.linear_combos.specs.Combos.{IsSum, IsDifference}
 use Rattle.realisations.specs.Indices.{AreIndices, total_degree}
@@ -16,8 +17,8 @@ pub record IsOver (bases : List BasisId) (c : Combination) : Type 0 where
   pub short : length bases ≤ 3
   pub built : AreBuilt bases
   pub rank : c.rank ≡ length bases
-  pub indices : (key : List (List ℕ)) → HasKey c.terms key → AreIndices bases key
-  pub degrees : (key : List (List ℕ)) → HasKey c.terms key → total_degree bases key ≤ least_limit bases
+  pub indices : (key : Key) → HasKey c.terms key → AreIndices bases key
+  pub degrees : (key : Key) → HasKey c.terms key → total_degree bases key ≤ least_limit bases
 
 -- a combination becomes the value over the bases, and a fault the refusal of its name
 abbrev pub IsAnswerOver : List BasisId → Result Combination ComboFault → Result Expansion Refusal → Type 0

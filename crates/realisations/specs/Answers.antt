@@ -1,7 +1,8 @@
 -- What a rule on indices answers.
 use Rattle.std.specs.Prelude.{◌≡◌, ℕ, ◌*◌, ◌^◌, ◌≤◌, List, length, map}
+use Rattle.realisations.specs.Codes.{Key}
 use Rattle.realisations.specs.Bases.{kind_of}
-use Rattle.realisations.specs.Points.{ArePoints}
+use Rattle.realisations.specs.Points.{ArePoints, Points}
 use Rattle.realisations.specs.Combinations.{Combination, IsCanonical, HasKey, norm_of}
 use Rattle.realisations.specs.Indices.{AreIndices, total_degree}
 use Rattle.realisations.specs.Readings.{Reading, leaf, AgreeAt}
@@ -13,6 +14,6 @@ pub record IsAnswer (bases : List BasisId) (n : ℕ) (reading : Reading) (c : Co
   pub rank : c.rank ≡ length bases
   pub whole : c.den ≡ 1
   pub small : norm_of c.terms ≤ 2 ^ (5 * n)
-  pub indices : (key : List (List ℕ)) → HasKey c.terms key → AreIndices bases key
-  pub degrees : (key : List (List ℕ)) → HasKey c.terms key → total_degree bases key ≡ n
-  pub reads : (ps : List (List ℕ)) → ArePoints (map kind_of bases) ps → AgreeAt (leaf bases 1 c.terms) reading ps
+  pub indices : (key : Key) → HasKey c.terms key → AreIndices bases key
+  pub degrees : (key : Key) → HasKey c.terms key → total_degree bases key ≡ n
+  pub reads : (ps : Points) → ArePoints (map kind_of bases) ps → AgreeAt (leaf bases 1 c.terms) reading ps

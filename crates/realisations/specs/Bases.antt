@@ -1,14 +1,15 @@
 -- The tables of the bases, a line a basis: at which points each is read, what its elements are indexed by, and the representatives of these. And that of the algebras: which of them lie in which.
-use Rattle.std.specs.Prelude.{ℕ, Bool, true, false, List, [], ◌∷◌}
+use Rattle.std.specs.Prelude.{Bool, true, false, List, [], ◌∷◌}
 use Rattle.basis_names.specs.declared.bases.AlgebraId.{AlgebraId}
 use Rattle.basis_names.specs.declared.bases.AlgebraId.TheVariants.{Qsym, Ncsf, Fqsym, Wqsym, Fsym, Pbt}
 use Rattle.basis_names.specs.declared.bases.BasisId.{BasisId}
 use Rattle.basis_names.specs.declared.bases.BasisId.TheVariants.{QsymM, QsymF, NcsfS, NcsfL, NcsfR, FqsymF, FqsymG, WqsymM, FsymS, PbtP}
+use Rattle.realisations.specs.Codes.{Code, Key}
 use Rattle.realisations.specs.Descents.{word_of_composition, complement}
 use Rattle.realisations.specs.Standardisation.{inverse}
 use Rattle.realisations.specs.Tableaux.{rows_of, reading_word}
 use Rattle.realisations.specs.Trees.{tree_of, subtree_sizes}
-use Rattle.realisations.specs.Points.{Kind, exponents, word}
+use Rattle.realisations.specs.Points.{Kind, exponents, word, Point, Points}
 use Rattle.realisations.specs.IndexKinds.{IndexKind, by_composition, by_permutation, by_packed_word, by_tableau, by_tree}
 
 -- the kind of the points at which a basis is read
@@ -41,7 +42,7 @@ index_kind_of PbtP = by_tree
 -- a composition as exponents; for R and S a word with this descent composition, for L one with the descents that S has none at;
 -- for G and M over words the index itself; for F the inverse permutation;
 -- of a tableau the inverse of its reading word; of a tree the sizes of its subtrees
-abbrev pub representative : BasisId → List ℕ → List ℕ
+abbrev pub representative : BasisId → Code → Point
 representative QsymM code = code
 representative QsymF code = code
 representative NcsfS code = word_of_composition code
@@ -54,7 +55,7 @@ representative FsymS code = inverse (reading_word (rows_of code))
 representative PbtP code = subtree_sizes (tree_of code)
 
 -- the representatives of the codes of a key
-abbrev pub representatives : List BasisId → List (List ℕ) → List (List ℕ)
+abbrev pub representatives : List BasisId → Key → Points
 representatives [] key = []
 representatives (basis ∷ bases) [] = []
 representatives (basis ∷ bases) (code ∷ key) = representative basis code ∷ representatives bases key

@@ -1,5 +1,6 @@
 pub mod Answers
 pub mod Bases
+pub mod Codes
 pub mod Combinations
 pub mod Descents
 pub mod Exponents

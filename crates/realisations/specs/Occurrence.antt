@@ -1,8 +1,10 @@
 -- Where basis elements occur. Over its ordered alphabet a basis element is a sum of distinct points; it occurs at these.
-use Rattle.std.specs.Prelude.{ℕ, Bool, ◌&&◌, List, length, nat_eq}
+use Rattle.std.specs.Prelude.{Bool, ◌&&◌, length, nat_eq}
 use Rattle.std.specs.List.{sum}
 use Rattle.basis_names.specs.declared.bases.BasisId.{BasisId}
 use Rattle.basis_names.specs.declared.bases.BasisId.TheVariants.{QsymM, QsymF, NcsfR, NcsfS, NcsfL, FqsymG, FqsymF, WqsymM, FsymS, PbtP}
+use Rattle.realisations.specs.Codes.{Code}
+use Rattle.realisations.specs.Points.{Point}
 use Rattle.realisations.specs.Lists.{same_list, is_subset}
 use Rattle.realisations.specs.Exponents.{without_zeros, nondecreasing_word}
 use Rattle.realisations.specs.Standardisation.{standardise, pack, inverse}
@@ -19,7 +21,7 @@ use Rattle.realisations.specs.Tableaux.{tableau_code, recording_tableau}
 -- M of u at the words whose packing is u (Hivert 1999; Novelli, Thibon 2006);
 -- S of t at the words whose standardisation has an inverse with insertion tableau t (Poirier, Reutenauer 1995);
 -- P of T at the words with decreasing tree T (Loday, Ronco 1998; Hivert, Novelli, Thibon 2005)
-abbrev pub occurs : BasisId → List ℕ → List ℕ → Bool
+abbrev pub occurs : BasisId → Code → Point → Bool
 occurs QsymM code p = same_list (without_zeros p) code
 occurs QsymF code p = nat_eq (length (nondecreasing_word p)) (sum code) && is_subset (descent_set code) (ascents (nondecreasing_word p))
 occurs NcsfR code p = same_list (descent_composition p) code

@@ -4,7 +4,7 @@ use Rattle.std.specs.List.{filter, flat_map, sum}
 use Rattle.realisations.specs.Words.{shuffles}
 use Rattle.realisations.specs.Standardisation.{inverse}
 use Rattle.realisations.specs.Descents.{is_finer, word_of_composition}
-use Rattle.realisations.specs.Points.{Kind, exponents, word}
+use Rattle.realisations.specs.Points.{Kind, exponents, word, Point, Points}
 
 -- the permutations of size n: the letter n at each place of those of size n - 1
 abbrev pub permutations : ℕ → List (List ℕ)
@@ -32,11 +32,11 @@ up_to family (suc n) = up_to family n ++ family (suc n)
 
 -- a place of a pairing: a number of signs, and the points at which the operands are read
 abbrev pub Paired : Type 0 → Type 0
-Paired Point = ℕ × Point × Point
+Paired X = ℕ × X × X
 
 -- the places up to size n for components of these kinds. Words with words: the inverse of each permutation, and the permutation (Malvenuto, Reutenauer 1995).
 -- Words with exponents: for each composition J and each finer I, the word w_I and J as exponents, with a sign for each part of I past those of J, so that S of I is paired with M of I as 1 (Gelfand, Krob, Lascoux, Leclerc, Retakh, Thibon 1995)
-abbrev pub paired_points : ℕ → Kind → Kind → List (Paired (List ℕ))
+abbrev pub paired_points : ℕ → Kind → Kind → List (Paired Point)
 paired_points n word word = map (λ s. (0, inverse s, s)) (up_to permutations n)
 paired_points n word exponents =
     flat_map (λ j. map (λ i. (length i - length j, word_of_composition i, j)) (refinements j)) (up_to compositions n)
@@ -45,7 +45,7 @@ paired_points n exponents word =
 paired_points n exponents exponents = []
 
 -- the places for tuples of components, the first with the first and so on
-abbrev pub paired_tuples : ℕ → List Kind → List Kind → List (Paired (List (List ℕ)))
+abbrev pub paired_tuples : ℕ → List Kind → List Kind → List (Paired Points)
 paired_tuples n [] [] = (0, [], []) ∷ []
 paired_tuples n [] (l ∷ ls) = []
 paired_tuples n (k ∷ ks) [] = []

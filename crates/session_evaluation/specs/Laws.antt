@@ -1,7 +1,7 @@
 -- Laws of meanings.
-use Rattle.std.specs.Prelude.{◌≡◌, ℕ, List, Ok, map}
+use Rattle.std.specs.Prelude.{◌≡◌, Ok, map}
 use Rattle.realisations.specs.Bases.{kind_of}
-use Rattle.realisations.specs.Points.{ArePoints}
+use Rattle.realisations.specs.Points.{ArePoints, Points}
 use Rattle.realisations.specs.Readings.{Reading, AgreeAt}
 use Rattle.hopf_laws.specs.Values.{Expansion}
 use Rattle.session_grammar.specs.declared.expression.Expr.{Expr}
@@ -22,4 +22,4 @@ SomeMeaning = (names : Names) (x : Expr) (v : Expansion) → AreValues names →
 abbrev pub SameMeaning : Type 0
 SameMeaning = (names names' : Names) (x y : Expr) (v w : Expansion) (r s : Reading) → AreValues names → AreValues names' → IsBuilt x → IsBuilt y
     → Evaluates names x (Ok v) → Evaluates names' y (Ok w) → Means names x r → Means names' y s
-    → v.bases ≡ w.bases → ((ps : List (List ℕ)) → ArePoints (map kind_of v.bases) ps → AgreeAt r s ps) → v ≡ w
+    → v.bases ≡ w.bases → ((ps : Points) → ArePoints (map kind_of v.bases) ps → AgreeAt r s ps) → v ≡ w

@@ -1,8 +1,9 @@
 -- What an expression means: a reading, whatever bases its parts were entered in.
 use Rattle.std.specs.Prelude.{◌≡◌, ◌≤◌, ℕ, pos, negsuc, Bool, List, [], ◌∷◌, ◌||◌, Some, length, map, nat_eq, if◌then◌else◌}
 use Rattle.hopf_num.specs.Fractions.{Ratio, reciprocal}
+use Rattle.realisations.specs.Codes.{Code}
 use Rattle.realisations.specs.Bases.{kind_of}
-use Rattle.realisations.specs.Points.{ArePoints}
+use Rattle.realisations.specs.Points.{ArePoints, Points}
 use Rattle.realisations.specs.Readings.{Reading, leaf, element, product, tensor, sum_of, multiple, kinds_of, numerator, denominator, AgreeAt}
 use Rattle.basis_names.specs.declared.bases.BasisId.{BasisId}
 use Rattle.session_tokens.specs.declared.lexeme.Lexeme.{Lexeme}
@@ -47,7 +48,7 @@ signed minus a = if minus then negative a else a
 mutual
   pub data Means (names : Names) : Expr → Reading → Type 0 where
     number_means : {n : ℕ} → Means names (e.Number n) (number n)
-    element_means : {basis : BasisId} {items : List Lexeme} {code : List ℕ} → Spells basis items code → Means names (e.Element basis items) (element basis code)
+    element_means : {basis : BasisId} {items : List Lexeme} {code : Code} → Spells basis items code → Means names (e.Element basis items) (element basis code)
     name_means : {name : List ℕ} {v : Expansion} → value_of names name ≡ Some v → Means names (e.Named name) (reading_of v)
     sum_means : (part : Signed) (parts : List Signed) {first whole : Reading} → Means names part.value first
         → Combine names (signed part.minus first) (steps_of_sum parts) whole → Means names (e.Sum (part ∷ parts)) whole
@@ -67,4 +68,4 @@ pub record IsMeant (names : Names) (x : Expr) (v : Expansion) : Type 0 where
   pub meaning : Reading
   pub means : Means names x meaning
   pub positive : 1 ≤ denominator meaning
-  pub reads : (ps : List (List ℕ)) → ArePoints (map kind_of v.bases) ps → AgreeAt (reading_of v) meaning ps
+  pub reads : (ps : Points) → ArePoints (map kind_of v.bases) ps → AgreeAt (reading_of v) meaning ps
