@@ -7,7 +7,7 @@ use Rattle.realisations.specs.Standardisation.{inverse, place_of}
 use Rattle.realisations.specs.Descents.{word_of_composition}
 use Rattle.realisations.specs.Points.{Kind, exponents, word, IsPoint, ArePoints}
 use Rattle.realisations.specs.Pairings.{Paired, permutations, compositions, refinements, up_to, paired_points, paired_tuples}
-use Rattle.realisations.specs.Readings.{Operation, coproduct, antipode, counit, mult, commute, cuts, all_cuts, joined, pieces, all_joined, commuting, kinds_after, kinds_after_at, reads, reads_at}
+use Rattle.realisations.specs.Readings.{Operation, coproduct, antipode, counit, mult, commute, cuts, all_cuts, on_ordinal_sum, pieces, on_ordinal_sums, commuting, kinds_after, kinds_after_at, reads, reads_at}
 use Rattle.realisations.specs.Laws.{IsDoubled, PointsLaw}
 use Rattle.realisations.proofs.Every.{every-append, every-map, every-flat_map, every-any}
 
@@ -89,12 +89,12 @@ cuts_are_points : (kind : Kind) (p : List ℕ) → IsPoint kind p → AllByRecur
 cuts_are_points exponents p h = every-any _ (λ c. (tt, tt)) (cuts exponents p)
 cuts_are_points word p h = words_cut p h
 
-joined_are_points : (kind : Kind) (u v : List ℕ) → IsPoint kind u → IsPoint kind v → AllByRecursion (IsPoint kind) (joined kind u v)
-joined_are_points exponents u v hu hv = (tt, tt)
-joined_are_points word u v hu hv = words_shifted u v hu hv
+ordinal_sum_of_points : (kind : Kind) (u v : List ℕ) → IsPoint kind u → IsPoint kind v → AllByRecursion (IsPoint kind) (on_ordinal_sum kind u v)
+ordinal_sum_of_points exponents u v hu hv = (tt, tt)
+ordinal_sum_of_points word u v hu hv = words_shifted u v hu hv
 
--- the pieces of a point, joined
-pieces_are_points : (kind : Kind) (p : List ℕ) → IsPoint kind p → AllByRecursion (λ parts. AllByRecursion (IsPoint kind) (all_joined kind parts)) (pieces kind p)
+-- the pieces of a point, on their ordinal sum
+pieces_are_points : (kind : Kind) (p : List ℕ) → IsPoint kind p → AllByRecursion (λ parts. AllByRecursion (IsPoint kind) (on_ordinal_sums kind parts)) (pieces kind p)
 pieces_are_points exponents p h = every-any _ (λ parts. (tt, tt)) (pieces exponents p)
 pieces_are_points word p h = every-weaker-words (word_pieces p) (words_in_pieces p h)
   where
@@ -125,6 +125,7 @@ cuts_of_points (kind ∷ kinds) (p ∷ ps) h =
     (λ c l. every-map (BothOf kinds) (BothOf (kind ∷ kinds)) (λ d. (c.0 ∷ d.0, c.1 ∷ d.1))
     (λ d m. ((l.0, m.0), (l.1, m.1))) (all_cuts kinds ps) (cuts_of_points kinds ps h.1))
     (cuts kind p) (cuts_are_points kind p h.0)
+
 -- a tuple that an operation reads, with its signs
 abbrev Read : List Kind → ℕ × List (List ℕ) → Type 0
 Read kinds r = ArePoints kinds r.1
@@ -135,11 +136,11 @@ first_of_points : (operation : Operation) (kind : Kind) (kinds : List Kind) (ps 
 first_of_points coproduct kind kinds [] same h = absurd h
 first_of_points coproduct kind kinds (u ∷ []) same h = absurd h.1
 first_of_points coproduct kind kinds (u ∷ v ∷ ps) same h =
-    every-map (IsPoint kind) (Read (kind ∷ kinds)) (λ p. (0, p ∷ ps)) (λ p l. (l, h.1.1)) (joined kind u v) (joined_are_points kind u v h.0 h.1.0)
+    every-map (IsPoint kind) (Read (kind ∷ kinds)) (λ p. (0, p ∷ ps)) (λ p l. (l, h.1.1)) (on_ordinal_sum kind u v) (ordinal_sum_of_points kind u v h.0 h.1.0)
 first_of_points antipode kind kinds [] same h = absurd h
 first_of_points antipode kind kinds (p ∷ ps) same h =
-    every-flat_map (λ parts. AllByRecursion (IsPoint kind) (all_joined kind parts)) (Read (kind ∷ kinds)) (λ parts. map (λ q. (length parts, q ∷ ps)) (all_joined kind parts))
-    (λ parts l. every-map (IsPoint kind) (Read (kind ∷ kinds)) (λ q. (length parts, q ∷ ps)) (λ q m. (m, h.1)) (all_joined kind parts) l)
+    every-flat_map (λ parts. AllByRecursion (IsPoint kind) (on_ordinal_sums kind parts)) (Read (kind ∷ kinds)) (λ parts. map (λ q. (length parts, q ∷ ps)) (on_ordinal_sums kind parts))
+    (λ parts l. every-map (IsPoint kind) (Read (kind ∷ kinds)) (λ q. (length parts, q ∷ ps)) (λ q m. (m, h.1)) (on_ordinal_sums kind parts) l)
     (pieces kind p) (pieces_are_points kind p h.0)
 first_of_points counit kind kinds ps same h = ((empty_is_point kind, h), tt)
 first_of_points mult kind [] ps same h = absurd (same refl)

@@ -16,7 +16,7 @@ pub record Combination : Type 0 where
   pub den : ℕ
   pub terms : Terms
 
--- the canonical order of keys: component by component, each code letter by letter, a proper prefix first
+-- the canonical order of keys, the lexicographic one: component by component, each code letter by letter, a proper prefix first
 abbrev pub key_cmp : Key → Key → Ordering
 key_cmp a b = slice_cmp (slice_cmp nat_cmp) a b
 

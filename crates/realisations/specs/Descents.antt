@@ -30,7 +30,7 @@ descent_composition (x ∷ []) = 1 ∷ []
 descent_composition (x ∷ y ∷ w) =
     if nat_lt y x then 1 ∷ descent_composition (y ∷ w) else longer_first (descent_composition (y ∷ w))
 
--- the partial sums of a composition behind a sum s, without the whole sum
+-- the partial sums of a composition after a sum s, without the whole sum
 abbrev pub partial_sums : ℕ → List ℕ → List ℕ
 partial_sums s [] = []
 partial_sums s (i ∷ []) = []

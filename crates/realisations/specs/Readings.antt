@@ -72,20 +72,20 @@ all_cuts (kind ∷ kinds) [] = []
 all_cuts (kind ∷ kinds) (p ∷ ps) =
     flat_map (λ c. map (λ d. (c.0 ∷ d.0, c.1 ∷ d.1)) (all_cuts kinds ps)) (cuts kind p)
 
--- the points of a doubled alphabet, all letters of the first half below those of the second, that are u on the first half and v on the second
-abbrev pub joined : Kind → Point → Point → List Point
-joined exponents u v = (u ++ v) ∷ []
-joined word u v = shifted_shuffles u v
+-- the points of the ordinal sum of two alphabets, all letters of the first below those of the second, that are u on the first and v on the second (Duchamp, Hivert, Thibon 2002)
+abbrev pub on_ordinal_sum : Kind → Point → Point → List Point
+on_ordinal_sum exponents u v = (u ++ v) ∷ []
+on_ordinal_sum word u v = shifted_shuffles u v
 
 -- the ways to write a point as a product of points of positive degree, in order
 abbrev pub pieces : Kind → Point → List (List Point)
 pieces exponents p = all_exponent_pieces p
 pieces word p = word_pieces p
 
--- the points of a manifold alphabet that are the pieces, each on its own part
-abbrev pub all_joined : Kind → List Point → List Point
-all_joined exponents parts = concat parts ∷ []
-all_joined word parts = all_shuffles parts
+-- the points of the ordinal sum of alphabets that are the pieces, each on its own
+abbrev pub on_ordinal_sums : Kind → List Point → List Point
+on_ordinal_sums exponents parts = concat parts ∷ []
+on_ordinal_sums word parts = all_shuffles parts
 
 -- the points whose commuting image is a monomial
 abbrev pub commuting : Kind → Point → List Point
@@ -93,10 +93,10 @@ commuting exponents p = p ∷ []
 commuting word p = words_of p
 
 -- the tuples of points at which an operation on the first component, of this kind, reads its operand, each with a number of signs.
--- The antipode is Takeuchi's sum (1971): over all ways to cut a point into k pieces of positive degree, (-1)^k times the operand where the pieces are joined
+-- The antipode is Takeuchi's sum (1971): over all ways to cut a point into k pieces of positive degree, (-1)^k times the operand on the ordinal sum of their alphabets
 abbrev pub reads : Operation → Kind → Points → List (ℕ × Points)
-reads coproduct kind (u ∷ v ∷ ps) = map (λ p. (0, p ∷ ps)) (joined kind u v)
-reads antipode kind (p ∷ ps) = flat_map (λ parts. map (λ q. (length parts, q ∷ ps)) (all_joined kind parts)) (pieces kind p)
+reads coproduct kind (u ∷ v ∷ ps) = map (λ p. (0, p ∷ ps)) (on_ordinal_sum kind u v)
+reads antipode kind (p ∷ ps) = flat_map (λ parts. map (λ q. (length parts, q ∷ ps)) (on_ordinal_sums kind parts)) (pieces kind p)
 reads counit kind ps = (0, [] ∷ ps) ∷ []
 reads mult kind (p ∷ ps) = map (λ c. (0, c.0 ∷ c.1 ∷ ps)) (cuts kind p)
 reads commute kind (p ∷ ps) = map (λ q. (0, q ∷ ps)) (commuting kind p)
