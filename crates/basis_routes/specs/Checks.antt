@@ -1,6 +1,7 @@
 -- Rows of checks: an operation is refused by the first of its checks that fails.
 use Rattle.std.specs.Prelude.{◌≡◌, ◌≢◌, ℕ, ◌≤◌, ◌⊎◌, ℤ, pos, List, [], ◌∷◌, map, All, IsSome, Result, MatchResult}
 use Rattle.hopf_num.specs.declared.room.Need.{Need}
+use Rattle.hopf_num.specs.FirstFailing.{IsFirstThatFails}
 use Rattle.hopf_num.specs.Room.{HasRoom, IsNeed}
 use Rattle.basis_names.specs.Bases.{algebra_of}
 use Rattle.basis_routes.specs.declared.refusal.Refusal.{Refusal}
@@ -36,9 +37,7 @@ IsCheck _ = Unit {0}
 
 -- it is the refusal of the first of these checks that fails
 abbrev pub IsFirstFailing : List Check → Refusal → Type 0
-IsFirstFailing [] refusal = ⊥
-IsFirstFailing (check ∷ checks) refusal =
-    ((refusal ≡ refusal_of check) × (Passes check → ⊥)) ⊎ (Passes check × IsFirstFailing checks refusal)
+IsFirstFailing checks refusal = IsFirstThatFails Passes refusal_of checks refusal
 
 -- a refusal of a call with these checks; want of memory may come at any time
 abbrev pub IsRefusalOf : List Check → Refusal → Type 0

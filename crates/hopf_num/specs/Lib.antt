@@ -1,3 +1,4 @@
 pub mod Divisors
+pub mod FirstFailing
 pub mod Fractions
 pub mod Room

@@ -1,6 +1,7 @@
 -- Room: numbers that are kept stay below 2^127 in absolute value.
-use Rattle.std.specs.Prelude.{◌≡◌, ℕ, ◌+◌, ◌*◌, ◌/◌, ◌^◌, ◌<◌, ◌≤◌, ◌⊎◌, List, [], ◌∷◌, All, Result, MatchResult}
+use Rattle.std.specs.Prelude.{ℕ, ◌+◌, ◌*◌, ◌/◌, ◌^◌, ◌<◌, ◌≤◌, List, [], ◌∷◌, All, Result, MatchResult}
 use Rattle.std.specs.Int.{◌∣◌}
+use Rattle.hopf_num.specs.FirstFailing.{IsFirstThatFails}
 use Rattle.hopf_num.specs.declared.room.Need.{Need}
 use Rattle.hopf_num.specs.declared.room.Need.TheVariants.{Denominator, CommonDenominator, Linear, Product, Sum}
 use Rattle.hopf_num.specs.declared.room.NumFault.{NumFault}
@@ -41,8 +42,7 @@ sum_rule m left_den right_den left right =
 
 -- it is the first of these needs that has no room
 abbrev pub IsFirstWithoutRoom : List Need → Need → Type 0
-IsFirstWithoutRoom [] told = ⊥
-IsFirstWithoutRoom (need ∷ needs) told = ((told ≡ need) × (HasRoom need → ⊥)) ⊎ (HasRoom need × IsFirstWithoutRoom needs told)
+IsFirstWithoutRoom needs told = IsFirstThatFails HasRoom (λ need. need) needs told
 
 -- a fault of a call with these needs
 abbrev pub IsFaultOf : List Need → NumFault → Type 0

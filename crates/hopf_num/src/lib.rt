@@ -5,14 +5,14 @@
 //! crate takes memory.
 #![tactic(auto)]
 
-mod checked;
+mod exact_arithmetic;
 mod decimal;
 mod divisors;
 mod fraction;
 mod memory;
 mod room;
 
-pub use checked::{product, quotient};
+pub use exact_arithmetic::{product, quotient};
 pub use divisors::{gcd, lcm};
 pub use fraction::Fraction;
 pub use memory::OutOfMemory;

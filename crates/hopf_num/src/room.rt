@@ -2,7 +2,7 @@
 ghost use Rattle.std.specs.Prelude.{◌≡◌, ◌+◌, ◌*◌, ◌^◌, ◌<◌, ◌≤◌, ◌↔◌, [], ◌∷◌, IsTrue};
 ghost use Rattle.hopf_num.specs.Room.{ProductFits, HasRoom, IsNeed, TestsRoom};
 
-use crate::checked::sum_of_products;
+use crate::exact_arithmetic::sum_of_products;
 use crate::lcm;
 
 /// What a refused call needed room for: its numbers, with which the stated inequality fails.

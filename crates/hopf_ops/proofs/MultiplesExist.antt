@@ -15,9 +15,10 @@ use Rattle.realisations.proofs.Agreement.{times_turned}
 use Rattle.hopf_laws.specs.Values.{Expansion, IsValue, Expands, ratio_of, reading_of}
 use Rattle.basis_routes.specs.declared.checks.Check.TheVariants.{Scalar}
 use Rattle.basis_routes.specs.Checks.{Passes}
-use Rattle.hopf_ops.specs.Operations.{negation_of, quotient_checks, quotient_of}
+use Rattle.hopf_ops.specs.Operations.{quotient_checks}
 use Rattle.hopf_ops.proofs.LowestExist.{IsCanonicalOver, combination_exists, value_over}
 use Rattle.hopf_ops.proofs.MultiplesOfValues.{multiple_over, multiple_reads, abs-with_sign_of}
+use Rattle.hopf_ops.specs.ReadingOperations.{negative, quotient}
 
 -- the same keys, with the numerators times a number
 abbrev scaled : ℤ → Terms → Terms
@@ -87,7 +88,7 @@ multiple_value a by ha positive small room =
     )
 
 -- each value has a negation
-pub negation_exists : (a : Expansion) → IsValue a → (v : Expansion) × Expands a.bases (negation_of a) v
+pub negation_exists : (a : Expansion) → IsValue a → (v : Expansion) × Expands a.bases (negative (reading_of a)) v
 negation_exists a ha =
     let small = ha.canonical.lowest.small in
     let room = ha.canonical.ordered.small in
@@ -99,7 +100,7 @@ abs-some (pos (suc n)) h = omega arith
 abs-some (negsuc n) h = omega arith
 
 -- each value has a quotient by a scalar, where the checks pass
-pub quotient_exists : (a b : Expansion) → IsValue a → IsValue b → All Passes (quotient_checks a b) → (v : Expansion) × Expands a.bases (quotient_of a b) v
+pub quotient_exists : (a b : Expansion) → IsValue a → IsValue b → All Passes (quotient_checks a b) → (v : Expansion) × Expands a.bases (quotient (reading_of a) (reading_of b)) v
 quotient_exists a b ha hb pass =
     let by : Ratio = reciprocal (ratio_of b) in
     let nonzero : (ratio_of b).num ≢ pos 0 = pass 1 (Scalar 0) (omega arith) in

@@ -4,12 +4,14 @@ use Rattle.std.proofs.Math.IntN.{ℤ, pos, ◌+ℤ◌, ◌*ℤ◌, *ℤ_comm}
 use Rattle.std.proofs.Math.Nat.{mul-le-mul}
 use Rattle.std.specs.Prelude.{All, Bool, true, false, ◌||◌, if◌then◌else◌, nat_eq}
 use Rattle.std.proofs.lemmas.Bool.{eqb-false}
-use Rattle.std.proofs.lemmas.List.{take_all}
+use Rattle.std.proofs.lemmas.List.{length-map, take_all}
 use Rattle.std.proofs.lemmas.List.Sums.{sum_by-append}
 use Rattle.hopf_num.specs.Fractions.{Ratio}
 use Rattle.realisations.specs.Combinations.{Combination, IsCanonical, IsLowest, HasKey, norm_of, term_at, weighed}
+use Rattle.realisations.specs.Bases.{kind_of}
 use Rattle.realisations.specs.Readings.{Terms, leaf, product, tensor, AgreeAt}
 use Rattle.realisations.proofs.Coefficients.{Codes}
+use Rattle.realisations.proofs.Linearity.{weighed-append}
 use Rattle.linear_combos.proofs.Edits.{lowest_one, zero_canonical}
 use Rattle.linear_combos.proofs.Gathering.{gathered}
 use Rattle.basis_names.specs.declared.bases.BasisId.{BasisId}
@@ -22,15 +24,16 @@ use Rattle.basis_routes.proofs.Degrees.{least_limit-small}
 use Rattle.basis_routes.proofs.Rows.{passes_earlier, passes_last}
 use Rattle.basis_routes.proofs.RulesExist.{elements_product_exists}
 use Rattle.hopf_ops.specs.Gathering.{IsGathered, AreFactors, AreFactorKeys, IsProductOfKeys, AreGathered, AddsMultiple, degree_of_product}
-use Rattle.hopf_ops.specs.Operations.{common_checks, has_scalar, product_room, component_checks, product_checks, product_bases, product_of}
+use Rattle.hopf_ops.specs.Operations.{common_checks, has_scalar, product_room, component_checks, product_checks, product_bases}
 use Rattle.hopf_ops.proofs.Gathering.{none_gathered, factor_keys, product_room as next_room, product_gathered, row_gathered, all_gathered}
 use Rattle.hopf_ops.proofs.MultiplesExist.{multiple_exists}
 use Rattle.hopf_ops.proofs.ProductsOfKeys.{other_factors, one_component, more_components, norms_room}
 use Rattle.hopf_ops.proofs.ProductsOfValues.{room_of_dens, room_of_norms, degree_over, of_indices, gathered_value, gathered_reads}
 use Rattle.hopf_ops.proofs.ScalarProductsExist.{scalar_product_exists}
-use Rattle.hopf_ops.proofs.SumsExist.{AreOfRank, times, weighed-times_factor, norm-times_factor, keys-times_factor, weighed-append, keys-append, rank-of_keys, keys-of_rank, passes_later}
+use Rattle.hopf_ops.proofs.SumsExist.{AreOfRank, times, weighed-times_factor, norm-times_factor, keys-times_factor, keys-append, rank-of_keys, keys-of_rank, passes_later}
 use Rattle.hopf_ops.proofs.SumsOfValues.{same_bases, joined-same}
 use Rattle.hopf_ops.proofs.TensorsExist.{tensor_combination_exists}
+use Rattle.hopf_ops.specs.ReadingOperations.{is_scalar, product_or_tensor}
 
 -- two keys of indices whose degrees add to at most the limit have a product
 pub keys_product_exists : (bases : List BasisId) (left right : Codes) → 1 ≤ length bases → AreFactorKeys bases left right → (c : Combination) × IsProductOfKeys bases left right c
@@ -200,17 +203,17 @@ product_exists a b ha hb scalar pass =
     let within : n ≤ least_limit (joined a.bases b.bases) =
     passes_last (SameRank (length a.bases) (length b.bases) ∷ join_checks a.bases b.bases) (DegreeWithin n (least_limit (joined a.bases b.bases))) common in
     subst (λ bases. (v : Expansion) × Expands bases (product (reading_of a) (reading_of b)) v) (sym join)
-    (product_value a b ha hb (sym (same_bases a.bases b.bases ha.built hb.built long)) (some_components (length a.bases) (nat_eq (length b.bases) 0) scalar)
+    (product_value a b ha hb (sym (same_bases a.bases b.bases ha.built hb.built long)) (some_components (length a.bases) (is_scalar (reading_of b)) (ap (λ n. nat_eq n 0 || is_scalar (reading_of b)) (sym (length-map a.bases kind_of)) ∙ scalar))
     (subst (λ bases. n ≤ least_limit bases) join within) room)
 
 -- by whether one of the values is a scalar
 product_by_case : (s : Bool) (a b : Expansion) → IsValue a → IsValue b → has_scalar a b ≡ s → All Passes (product_checks a b)
-    → (v : Expansion) × Expands (product_bases a b) (product_of a b) v
+    → (v : Expansion) × Expands (product_bases a b) (product_or_tensor (reading_of a) (reading_of b)) v
 product_by_case true a b ha hb is pass = scalar_product_exists a b ha hb is pass
 product_by_case false a b ha hb is pass =
     subst (λ (s : Bool). (v : Expansion) × Expands (if s then a.bases ++ b.bases else joined a.bases b.bases) (if s then tensor (reading_of a) (reading_of b) else product (reading_of a) (reading_of b)) v) (sym is)
     (product_exists a b ha hb is (subst (λ (s : Bool). All Passes (if s then product_room 0 a b else component_checks a b)) is pass))
 
 -- two values that pass the checks of a product have one
-pub any_product_exists : (a b : Expansion) → IsValue a → IsValue b → All Passes (product_checks a b) → (v : Expansion) × Expands (product_bases a b) (product_of a b) v
+pub any_product_exists : (a b : Expansion) → IsValue a → IsValue b → All Passes (product_checks a b) → (v : Expansion) × Expands (product_bases a b) (product_or_tensor (reading_of a) (reading_of b)) v
 any_product_exists a b ha hb pass = product_by_case (has_scalar a b) a b ha hb refl pass

@@ -13,18 +13,20 @@ use Rattle.realisations.specs.Readings.{Terms}
 use Rattle.realisations.specs.Combinations.{Combination, IsCanonical, HasKey, norm_of, term_at, weighed}
 use Rattle.linear_combos.specs.Merges.{IsCombined}
 use Rattle.realisations.proofs.Agreement.{times_turned}
+use Rattle.realisations.proofs.Linearity.{weighed-append}
 use Rattle.linear_combos.proofs.SumsOfCombos.{IsSignedSum-combined, IsSum-signed, IsDifference-signed}
 use Rattle.basis_names.specs.declared.bases.BasisId.{BasisId}
 use Rattle.hopf_laws.specs.Bases.{least_limit}
-use Rattle.hopf_laws.specs.Values.{Expansion, IsValue, Expands, degree_of_value}
+use Rattle.hopf_laws.specs.Values.{Expansion, IsValue, Expands, degree_of_value, reading_of}
 use Rattle.basis_routes.specs.declared.checks.Check.{Check}
 use Rattle.basis_routes.specs.declared.checks.Check.TheVariants.{SameRank, Joined, DegreeWithin, Room}
 use Rattle.basis_routes.specs.Checks.{Passes, IsCheck}
 use Rattle.basis_routes.specs.Joins.{joined, join_checks}
-use Rattle.hopf_ops.specs.Operations.{common_checks, sum_checks, sum_or_difference_of}
+use Rattle.hopf_ops.specs.Operations.{common_checks, sum_checks}
 use Rattle.hopf_ops.specs.Answers.{IsSumOrDifference}
 use Rattle.hopf_ops.proofs.LowestExist.{combination_exists}
 use Rattle.hopf_ops.proofs.SumsOfValues.{sum_over, sum_reads}
+use Rattle.hopf_ops.specs.ReadingOperations.{sum_or_difference}
 
 -- keys of one rank
 abbrev pub AreOfRank : ℕ → Terms → Type 0
@@ -57,12 +59,7 @@ keys-times_factor p (t ∷ ts) key (zero, lt, is) = (0, omega arith, is)
 keys-times_factor p (t ∷ ts) key (suc i, lt, is) =
     let (j, lt2, is2) = keys-times_factor p ts key (i, omega (arith, lt), is) in (suc j, omega (arith, lt2), is2)
 
--- the weight of terms behind others
-pub weighed-append : (w : List (List ℕ) → ℤ) (ts us : Terms) → weighed w (ts ++ us) ≡ weighed w ts +ℤ weighed w us
-weighed-append w [] us = omega (arith, ints)
-weighed-append w (t ∷ ts) us = omega (arith, ints, weighed-append w ts us)
-
--- and their keys
+-- keys of terms and others
 pub keys-append : (ts us : Terms) (key : List (List ℕ)) → HasKey (ts ++ us) key → HasKey ts key ⊎ HasKey us key
 keys-append [] us key has = inr has
 keys-append (t ∷ ts) us key (zero, lt, is) = inl (0, omega arith, is)
@@ -153,7 +150,7 @@ passes_later (check ∷ checks) later h = passes_later checks later (All-tail Pa
 
 -- two values that pass the checks of a sum have one
 pub sum_exists : (m : ℕ) (minus : Bool) (a b : Expansion) → IsValue a → IsValue b → IsLcm a.combination.den b.combination.den m → All Passes (sum_checks m a b)
-    → (v : Expansion) × Expands (joined a.bases b.bases) (sum_or_difference_of minus a b) v
+    → (v : Expansion) × Expands (joined a.bases b.bases) (sum_or_difference minus (reading_of a) (reading_of b)) v
 sum_exists m minus a b ha hb least pass =
     let x = a.combination in
     let y = b.combination in

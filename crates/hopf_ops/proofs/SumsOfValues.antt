@@ -8,15 +8,16 @@ use Rattle.realisations.specs.Readings.{leaf, occurrence, numerator, AgreeAt}
 use Rattle.basis_names.specs.declared.bases.BasisId.{BasisId}
 use Rattle.basis_names.specs.declared.bases.BasisId.TheVariants.{QsymM}
 use Rattle.hopf_laws.specs.Bases.{AreBuilt, least_limit}
-use Rattle.hopf_laws.specs.Values.{Expansion, IsValue}
+use Rattle.hopf_laws.specs.Values.{Expansion, IsValue, reading_of}
 use Rattle.std.specs.Prelude.{All, Bool, true, false, neg_ℤ, unwrap_or}
 use Rattle.basis_routes.specs.declared.checks.Check.TheVariants.{SameRank}
 use Rattle.basis_routes.specs.Checks.{Passes}
 use Rattle.basis_routes.specs.JoinTable.{join_of}
 use Rattle.basis_routes.specs.Joins.{joined}
 use Rattle.hopf_laws.proofs.BuiltBases.{only_built}
-use Rattle.hopf_ops.specs.Operations.{common_checks, sum_or_difference_of}
+use Rattle.hopf_ops.specs.Operations.{common_checks}
 use Rattle.hopf_ops.specs.Answers.{IsOver, IsSumOrDifference}
+use Rattle.hopf_ops.specs.ReadingOperations.{sum_or_difference}
 
 -- while there is one built basis, lists of one length are the same, and so are their joins
 pub same_bases : (lefts rights : List BasisId) → AreBuilt lefts → AreBuilt rights → length lefts ≡ length rights → lefts ≡ rights
@@ -75,7 +76,7 @@ times-minus_one z = *ℤ_comm (negsuc 0) z ∙ *ℤ-neg_ℤ z (pos 1) ∙ ap neg
 
 -- over the same bases it reads as the sum or difference
 reads_over : (minus : Bool) (bases : List BasisId) (a b c : Combination) → IsSumOrDifference minus a b c → (ps : List (List ℕ))
-    → AgreeAt (leaf bases c.den c.terms) (sum_or_difference_of minus (record { bases = bases; combination = a }) (record { bases = bases; combination = b })) ps
+    → AgreeAt (leaf bases c.den c.terms) (sum_or_difference minus (reading_of (record { bases = bases; combination = a })) (reading_of (record { bases = bases; combination = b }))) ps
 reads_over false bases a b c is ps =
     ap (λ z. numerator (leaf bases c.den c.terms) ps *ℤ z) (sym (pos-*ℤ-pos a.den b.den))
     ∙ is.weighs (λ key. pos (occurrence bases key ps))
@@ -99,11 +100,11 @@ reads_over true bases a b c is ps =
 
 -- so it reads over the joined bases
 pub sum_reads : (minus : Bool) (a b : Expansion) (c : Combination) → IsValue a → IsValue b → length a.bases ≡ length b.bases → IsSumOrDifference minus a.combination b.combination c
-    → (ps : List (List ℕ)) → AgreeAt (leaf ((joined a.bases b.bases)) c.den c.terms) (sum_or_difference_of minus a b) ps
+    → (ps : List (List ℕ)) → AgreeAt (leaf ((joined a.bases b.bases)) c.den c.terms) (sum_or_difference minus (reading_of a) (reading_of b)) ps
 sum_reads minus a b c ha hb long is ps =
     let same = same_bases a.bases b.bases ha.built hb.built long in
-    subst (λ bases. AgreeAt (leaf bases c.den c.terms) (sum_or_difference_of minus a b) ps) (sym (joined-same a.bases b.bases ha.built hb.built long))
-    (subst (λ bases. AgreeAt (leaf a.bases c.den c.terms) (sum_or_difference_of minus a (record { bases = bases; combination = b.combination })) ps) same
+    subst (λ bases. AgreeAt (leaf bases c.den c.terms) (sum_or_difference minus (reading_of a) (reading_of b)) ps) (sym (joined-same a.bases b.bases ha.built hb.built long))
+    (subst (λ bases. AgreeAt (leaf a.bases c.den c.terms) (sum_or_difference minus (reading_of a) (reading_of (record { bases = bases; combination = b.combination }))) ps) same
     (reads_over minus a.bases a.combination b.combination c is ps))
 
 -- two values that pass their common checks have one rank

@@ -12,6 +12,7 @@ use Rattle.realisations.specs.Readings.{Terms, tensor}
 use Rattle.realisations.specs.Combinations.{Combination, IsCanonical, HasKey, norm_of, weighed}
 use Rattle.linear_combos.specs.Combos.{IsTensor}
 use Rattle.realisations.proofs.Coefficients.{Codes}
+use Rattle.realisations.proofs.Linearity.{weighed-append}
 use Rattle.hopf_laws.specs.Bases.{least_limit}
 use Rattle.hopf_laws.specs.Values.{Expansion, IsValue, Expands, reading_of, degree_of_value}
 use Rattle.basis_routes.specs.declared.checks.Check.TheVariants.{Scalar}
@@ -53,10 +54,6 @@ weighed-row weight t (u ∷ us) = omega (
   *ℤ_assoc t.0 u.0 (weight (t.1 ++ u.1)),
   weighed-row weight t us,
 )
-
-weighed-append : (weight : Codes → ℤ) (ts us : Terms) → weighed weight (ts ++ us) ≡ weighed weight ts +ℤ weighed weight us
-weighed-append weight [] us = omega (arith, ints)
-weighed-append weight (t ∷ ts) us = omega (arith, ints, weighed-append weight ts us)
 
 weighed-pairs : (weight : Codes → ℤ) (ts us : Terms) → weighed weight (pairs ts us) ≡ weighed (λ left. weighed (λ right. weight (left ++ right)) us) ts
 weighed-pairs weight [] us = refl

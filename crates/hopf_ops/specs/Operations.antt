@@ -1,9 +1,7 @@
--- The operations on values: for each the checks in order, the bases of its answer and the reading of its answer.
-use Rattle.std.specs.Prelude.{ℕ, ◌+◌, ◌*◌, max, ◌||◌, if◌then◌else◌, Bool, true, false, negsuc, List, [], ◌∷◌, ◌++◌, length, nat_eq, unsigned_abs}
-use Rattle.hopf_num.specs.Fractions.{reciprocal}
+-- The operations on values: for each the checks in order and the bases of its answer. What its answer reads as is in `ReadingOperations`.
+use Rattle.std.specs.Prelude.{ℕ, ◌+◌, ◌*◌, max, ◌||◌, if◌then◌else◌, Bool, List, [], ◌∷◌, ◌++◌, length, unsigned_abs}
 use Rattle.hopf_num.specs.Room.{product_rule, sum_rule}
 use Rattle.realisations.specs.Combinations.{norm_of}
-use Rattle.realisations.specs.Readings.{Reading, product, tensor, sum_of, multiple}
 use Rattle.basis_names.specs.declared.bases.BasisId.{BasisId}
 use Rattle.hopf_laws.specs.Bases.{least_limit}
 use Rattle.hopf_laws.specs.Values.{Expansion, reading_of, ratio_of, degree_of_value}
@@ -11,6 +9,7 @@ use Rattle.basis_routes.specs.declared.checks.Check.{Check}
 use Rattle.basis_routes.specs.declared.checks.Check.TheVariants.{SameRank, RankWithin, Scalar, Nonzero, DegreeWithin}
 use Rattle.basis_routes.specs.Checks.{room_checks}
 use Rattle.basis_routes.specs.Joins.{joined, join_checks}
+use Rattle.hopf_ops.specs.ReadingOperations.{is_scalar}
 
 -- that two values have one rank, that each two components have a join, and that the degree of the result is within the least limit of the joins
 abbrev pub common_checks : ℕ → Expansion → Expansion → List Check
@@ -25,20 +24,9 @@ sum_checks m a b =
     common_checks (max (degree_of_value a) (degree_of_value b)) a b
     ++ room_checks (sum_rule m a.combination.den b.combination.den (norm_of a.combination.terms) (norm_of b.combination.terms))
 
-abbrev pub negation_of : Expansion → Reading
-negation_of a = multiple (negsuc 0) 1 (reading_of a)
-
-abbrev pub difference_of : Expansion → Expansion → Reading
-difference_of a b = sum_of (reading_of a) (negation_of b)
-
--- the difference, or else the sum
-abbrev pub sum_or_difference_of : Bool → Expansion → Expansion → Reading
-sum_or_difference_of true a b = difference_of a b
-sum_or_difference_of false a b = sum_of (reading_of a) (reading_of b)
-
--- a product with a scalar is the tensor product; other values multiply component by component
+-- one of two values is a scalar
 abbrev pub has_scalar : Expansion → Expansion → Bool
-has_scalar a b = nat_eq (length a.bases) 0 || nat_eq (length b.bases) 0
+has_scalar a b = is_scalar (reading_of a) || is_scalar (reading_of b)
 
 -- a rule of room of the product of two values, whose norm may grow by 2^shift
 abbrev pub product_room : ℕ → Expansion → Expansion → List Check
@@ -56,9 +44,6 @@ product_checks a b = if has_scalar a b then product_room 0 a b else component_ch
 abbrev pub product_bases : Expansion → Expansion → List BasisId
 product_bases a b = if has_scalar a b then a.bases ++ b.bases else joined a.bases b.bases
 
-abbrev pub product_of : Expansion → Expansion → Reading
-product_of a b = if has_scalar a b then tensor (reading_of a) (reading_of b) else product (reading_of a) (reading_of b)
-
 -- a tensor product
 abbrev pub tensor_checks : Expansion → Expansion → List Check
 tensor_checks a b =
@@ -72,6 +57,3 @@ quotient_checks a b =
     Scalar (length b.bases)
     ∷ Nonzero (ratio_of b).num
     ∷ room_checks (product_rule a.combination.den (unsigned_abs (ratio_of b).num) (norm_of a.combination.terms) b.combination.den 0)
-
-abbrev pub quotient_of : Expansion → Expansion → Reading
-quotient_of a b = multiple (reciprocal (ratio_of b)).num (reciprocal (ratio_of b)).den (reading_of a)

@@ -1,8 +1,9 @@
 //! Negation, and the quotient by a scalar.
 ghost use Rattle.std.specs.Prelude.{◌≡◌, negsuc, [], IfOk};
-ghost use Rattle.hopf_laws.specs.Values.{Expands};
+ghost use Rattle.hopf_laws.specs.Values.{Expands, reading_of};
 ghost use Rattle.basis_routes.specs.Checks.{Tests};
-ghost use Rattle.hopf_ops.specs.Operations.{negation_of, quotient_checks, quotient_of};
+ghost use Rattle.hopf_ops.specs.Operations.{quotient_checks};
+ghost use Rattle.hopf_ops.specs.ReadingOperations.{negative, quotient};
 
 use crate::common::over_bases;
 use basis_routes::{Check, Refusal, Value};
@@ -13,7 +14,7 @@ use std::alloc::Global;
 /// The value with the other sign. Want of memory is its only refusal. The cost is one pass.
 pub fn negate(alloc: Global, a: &Value) -> Result<Value, Refusal>
     ensures checks { Tests [] result }
-    ensures value { IfOk result (Expands a.now.bases (negation_of a.now)) }
+    ensures value { IfOk result (Expands a.now.bases (negative (reading_of a.now))) }
 {
     over_bases(
         a.bases().copy(),
@@ -34,7 +35,7 @@ fn minus_one() -> Fraction
 /// product with its reciprocal has room (`TooLarge`). The cost is one pass.
 pub fn divide(alloc: Global, a: &Value, b: &Value) -> Result<Value, Refusal>
     ensures checks { Tests (quotient_checks a.now b.now) result }
-    ensures value { IfOk result (Expands a.now.bases (quotient_of a.now b.now)) }
+    ensures value { IfOk result (Expands a.now.bases (quotient (reading_of a.now) (reading_of b.now))) }
 {
     let Some(divisor) = b.as_fraction() else {
         return Err(Refusal::NotScalar);

@@ -4,8 +4,9 @@ ghost use Rattle.realisations.specs.Readings.{product as multiply, tensor as ten
 ghost use Rattle.hopf_laws.specs.Bases.{least_limit};
 ghost use Rattle.hopf_laws.specs.Values.{Expands, reading_of, degree_of_value};
 ghost use Rattle.basis_routes.specs.Checks.{Passes, Tests};
-ghost use Rattle.hopf_ops.specs.Operations.{product_room, component_checks, product_checks, product_bases, product_of, tensor_checks};
+ghost use Rattle.hopf_ops.specs.Operations.{product_room, component_checks, product_checks, product_bases, tensor_checks};
 ghost use Rattle.basis_routes.specs.Joins.{joined};
+ghost use Rattle.hopf_ops.specs.ReadingOperations.{product_or_tensor};
 
 use crate::common::{common_bases, den_of, over_bases};
 use crate::gather::gathered_products;
@@ -46,7 +47,7 @@ pub fn tensor(alloc: Global, a: &Value, b: &Value) -> Result<Value, Refusal>
 /// each of its terms.
 pub fn times(alloc: Global, a: &Value, b: &Value) -> Result<Value, Refusal>
     ensures checks { Tests (product_checks a.now b.now) result }
-    ensures value { IfOk result (Expands (product_bases a.now b.now) (product_of a.now b.now)) }
+    ensures value { IfOk result (Expands (product_bases a.now b.now) (product_or_tensor (reading_of a.now) (reading_of b.now))) }
 {
     if a.rank() == 0 || b.rank() == 0 {
         return tensor_over(alloc, a, b, a.bases().followed_by(b.bases()));

@@ -10,7 +10,8 @@ ghost use Rattle.hopf_laws.specs.Values.{Expands, reading_of};
 ghost use Rattle.basis_routes.specs.Checks.{Tests};
 ghost use Rattle.basis_routes.specs.Joins.{joined};
 ghost use Rattle.hopf_ops.specs.Answers.{IsSumOrDifference};
-ghost use Rattle.hopf_ops.specs.Operations.{sum_checks, sum_or_difference_of, difference_of};
+ghost use Rattle.hopf_ops.specs.Operations.{sum_checks};
+ghost use Rattle.hopf_ops.specs.ReadingOperations.{difference, sum_or_difference};
 
 use crate::common::{common_bases, common_bases_of_sum, den_of, over_bases};
 use crate::gather::add_multiple;
@@ -37,7 +38,7 @@ pub fn add(alloc: Global, a: &Value, b: &Value) -> Result<Value, Refusal>
 /// The difference. Its checks are those of the sum. The cost is one merge.
 pub fn sub(alloc: Global, a: &Value, b: &Value) -> Result<Value, Refusal>
     ensures checks { (m : ℕ) → IsLcm a.now.combination.den b.now.combination.den m → Tests (sum_checks m a.now b.now) result }
-    ensures value { IfOk result (Expands (joined a.now.bases b.now.bases) (difference_of a.now b.now)) }
+    ensures value { IfOk result (Expands (joined a.now.bases b.now.bases) (difference (reading_of a.now) (reading_of b.now))) }
 {
     sum_or_difference(alloc, a, b, true)
 }
@@ -57,7 +58,7 @@ pub fn add_to(alloc: Global, a: Value, b: &Value) -> Result<Value, Refusal>
 /// The difference, made of the first operand as `add_to` makes the sum.
 pub fn sub_from(alloc: Global, a: Value, b: &Value) -> Result<Value, Refusal>
     ensures checks { (m : ℕ) → IsLcm a.combination.den b.now.combination.den m → Tests (sum_checks m a b.now) result }
-    ensures value { IfOk result (Expands (joined a.bases b.now.bases) (difference_of a b.now)) }
+    ensures value { IfOk result (Expands (joined a.bases b.now.bases) (difference (reading_of a) (reading_of b.now))) }
 {
     grown(alloc, a, b, true)
 }
@@ -65,7 +66,7 @@ pub fn sub_from(alloc: Global, a: Value, b: &Value) -> Result<Value, Refusal>
 // The difference, or else the sum, made of the first operand.
 fn grown(alloc: Global, a: Value, b: &Value, minus: bool) -> Result<Value, Refusal>
     ensures checks { (m : ℕ) → IsLcm a.combination.den b.now.combination.den m → Tests (sum_checks m a b.now) result }
-    ensures value { IfOk result (Expands (joined a.bases b.now.bases) (sum_or_difference_of minus a b.now)) }
+    ensures value { IfOk result (Expands (joined a.bases b.now.bases) (sum_or_difference minus (reading_of a) (reading_of b.now))) }
 {
     if b.combo().len() > FEW_TERMS {
         return sum_or_difference(alloc, &a, b, minus);
@@ -80,7 +81,7 @@ fn grown(alloc: Global, a: Value, b: &Value, minus: bool) -> Result<Value, Refus
 fn with_terms(a: Value, b: &Value, minus: bool) -> Result<Value, Refusal>
     requires multiple { b.now.combination.den ∣ a.combination.den }
     ensures checks { (m : ℕ) → IsLcm a.combination.den b.now.combination.den m → Tests (sum_checks m a b.now) result }
-    ensures value { IfOk result (Expands (joined a.bases b.now.bases) (sum_or_difference_of minus a b.now)) }
+    ensures value { IfOk result (Expands (joined a.bases b.now.bases) (sum_or_difference minus (reading_of a) (reading_of b.now))) }
 {
     let bases = common_bases_of_sum(&a, b)?;
     let factor = den_of(&a) / den_of(b);
@@ -126,7 +127,7 @@ fn with_sign(factor: u128, minus: bool) -> i128
 // The difference, or else the sum.
 fn sum_or_difference(alloc: Global, a: &Value, b: &Value, minus: bool) -> Result<Value, Refusal>
     ensures checks { (m : ℕ) → IsLcm a.now.combination.den b.now.combination.den m → Tests (sum_checks m a.now b.now) result }
-    ensures value { IfOk result (Expands (joined a.now.bases b.now.bases) (sum_or_difference_of minus a.now b.now)) }
+    ensures value { IfOk result (Expands (joined a.now.bases b.now.bases) (sum_or_difference minus (reading_of a.now) (reading_of b.now))) }
 {
     let bases = common_bases(a, b, a.degree().max(b.degree()))?;
     over_bases(bases, plus_or_minus(alloc, a.combo(), b.combo(), minus))

@@ -1,5 +1,5 @@
 -- Readings are linear in their terms, and their products are bilinear.
-use Rattle.std.proofs.Common.{◌≡◌, ℕ, zero, suc, List, [], ◌∷◌, map, refl, sym, ◌∙◌, ap, arith}
+use Rattle.std.proofs.Common.{◌≡◌, ℕ, zero, suc, List, [], ◌∷◌, ◌++◌, map, refl, sym, ◌∙◌, ap, arith}
 use Rattle.std.proofs.Math.IntN.{ℤ, pos, ◌+ℤ◌, ◌*ℤ◌, neg_ℤ, *ℤ_comm, *ℤ-zero}
 use Rattle.std.proofs.lemmas.Int.{ints}
 use Rattle.realisations.specs.Lists.{int_sum, with_sign}
@@ -66,6 +66,11 @@ int_sum-times f g ts us xs =
     ∙ (λ i. weighed (λ k. int_sum-weighed (λ x l. f x k *ℤ g x l) us xs i) ts)
 
 -- a sign before a weighed sum
+-- terms and then others
+pub weighed-append : (g : Codes → ℤ) (ts us : Terms) → weighed g (ts ++ us) ≡ weighed g ts +ℤ weighed g us
+weighed-append g [] us = omega (arith, ints)
+weighed-append g (t ∷ ts) us = omega (arith, ints, weighed-append g ts us)
+
 weighed-neg : (g : Codes → ℤ) (ts : Terms) → neg_ℤ (weighed g ts) ≡ weighed (λ k. neg_ℤ (g k)) ts
 weighed-neg g [] = refl
 weighed-neg g (t ∷ ts) = omega (arith, ints, *ℤ-neg_ℤ t.0 (g t.1), weighed-neg g ts)

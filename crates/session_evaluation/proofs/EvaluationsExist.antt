@@ -12,7 +12,7 @@ use Rattle.linear_combos.proofs.Edits.{lowest_one, zero_canonical}
 use Rattle.realisations.specs.Readings.{Terms}
 use Rattle.basis_names.specs.declared.bases.BasisId.{BasisId}
 use Rattle.hopf_laws.specs.Bases.{least_limit}
-use Rattle.hopf_laws.specs.Values.{Expansion, IsValue, Expands, ratio_of, degree_of_value}
+use Rattle.hopf_laws.specs.Values.{Expansion, IsValue, Expands, ratio_of, degree_of_value, reading_of}
 use Rattle.basis_routes.specs.declared.checks.Check.{Check}
 use Rattle.basis_routes.specs.declared.checks.Check.TheVariants.{RankWithin, Scalar, Nonzero, DegreeWithin, Room}
 use Rattle.basis_routes.specs.Checks.{Passes, IsCheck}
@@ -28,13 +28,14 @@ use Rattle.session_grammar.specs.declared.expression.Expr.{Expr}
 use Rattle.session_evaluation.specs.declared.operator.Operator.{Operator}
 use Rattle.session_evaluation.specs.declared.operator.Operator.TheVariants.{Plus, Minus, Hash, Times, Over}
 use Rattle.session_evaluation.specs.Built.{IsBuilt, built_number, built_element, built_name, built_sum, built_tensor, built_product, AreBuilt, no_steps, built_step}
-use Rattle.session_evaluation.specs.Evaluation.{Answer, number_value, element_value, checks_of, result_bases, result_of, Operates, answers, fails, Applies, Signs, Steps, Evaluates, number, element, known, unknown, sum, tensor_product, product, Folds, done, refused, step}
+use Rattle.session_evaluation.specs.Evaluation.{Answer, number_value, element_value, checks_of, result_bases, Operates, answers, fails, Applies, Signs, Steps, Evaluates, number, element, known, unknown, sum, tensor_product, product, Folds, done, refused, step}
 use Rattle.session_evaluation.specs.Names.{Names, value_of, AreValues}
 use Rattle.session_evaluation.proofs.BuiltForms.{built_number-inv, built_sum-parts, built_tensor-parts, built_product-parts}
 use Rattle.session_evaluation.proofs.KnownNames.{known_value}
 use Rattle.session_evaluation.proofs.SpelledElements.{spelled_within}
 use Rattle.session_grammar.specs.declared.expression.Expr.TheVariants as e
 use Rattle.session_evaluation.specs.declared.refusal.EvaluationRefusal.TheVariants as refusal
+use Rattle.session_evaluation.specs.Operators.{combined}
 
 -- The terms that are one term.
 abbrev one_term : ℤ → List (List ℕ) → Terms
@@ -146,7 +147,7 @@ checks_are Over m a b ha hb = quotient_checks_are a b
 
 -- Where they pass, the operation has a value.
 result_exists : (o : Operator) (m : ℕ) (a b : Expansion) → IsValue a → IsValue b → IsLcm a.combination.den b.combination.den m → All Passes (checks_of o m a b)
-    → (v : Expansion) × Expands (result_bases o a b) (result_of o a b) v
+    → (v : Expansion) × Expands (result_bases o a b) (combined o (reading_of a) (reading_of b)) v
 result_exists Plus m a b ha hb least pass = sum_exists m false a b ha hb least pass
 result_exists Minus m a b ha hb least pass = sum_exists m true a b ha hb least pass
 result_exists Hash m a b ha hb least pass = tensor_exists a b ha hb pass

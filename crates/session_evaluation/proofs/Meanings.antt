@@ -22,7 +22,7 @@ use Rattle.basis_routes.specs.Checks.{Passes}
 use Rattle.basis_routes.specs.Joins.{joined, join_checks}
 use Rattle.basis_routes.proofs.JoinedKinds.{joined_kinds}
 use Rattle.basis_routes.proofs.Rows.{passes_earlier}
-use Rattle.hopf_ops.specs.Operations.{negation_of, quotient_of, has_scalar, product_room, common_checks, component_checks}
+use Rattle.hopf_ops.specs.Operations.{has_scalar, product_room, common_checks, component_checks}
 use Rattle.hopf_ops.proofs.SumsOfValues.{same_rank}
 use Rattle.session_grammar.specs.declared.expression.Expr.{Expr}
 use Rattle.session_grammar.specs.declared.expression.Factor.{Factor}
@@ -32,9 +32,11 @@ use Rattle.session_evaluation.specs.declared.operator.Operator.TheVariants.{Plus
 use Rattle.session_evaluation.specs.declared.refusal.EvaluationRefusal.{EvaluationRefusal}
 use Rattle.session_evaluation.specs.Names.{Names, AreValues}
 use Rattle.session_evaluation.specs.Evaluation.{Answer, number_value, Operates, answers, Applies, Signs, Steps, steps_of_sum, steps_of_tensor, steps_of_product, Evaluates, number as evaluated_number, element as evaluated_element, known, unknown, sum, tensor_product, product as evaluated_product, Folds, done, refused, step}
-use Rattle.session_evaluation.specs.Meaning.{number, negative, ratio, is_scalar, combined, signed, Means, number_means, element_means, name_means, sum_means, tensor_means, product_means, Combine, combined_all, combine, IsMeant}
+use Rattle.session_evaluation.specs.Meaning.{number, signed, Means, number_means, element_means, name_means, sum_means, tensor_means, product_means, Combine, combined_all, combine, IsMeant}
 use Rattle.session_evaluation.proofs.KnownNames.{known_value}
 use Rattle.session_grammar.specs.declared.expression.Expr.TheVariants as e
+use Rattle.hopf_ops.specs.ReadingOperations.{negative, is_scalar, ratio, quotient}
+use Rattle.session_evaluation.specs.Operators.{combined}
 
 -- readings with the same kinds and positive denominators that agree at all points
 pub record Alike (q r : Reading) : Type 0 where
@@ -163,11 +165,11 @@ plus_alike a b v ra rb first second degree pass expands =
 
 -- and a difference
 minus_alike : (a b v : Expansion) (ra rb : Reading) → Alike (reading_of a) ra → Alike (reading_of b) rb → (degree : ℕ) → All Passes (common_checks degree a b)
-    → Expands (joined a.bases b.bases) (sum_of (reading_of a) (negation_of b)) v → Alike (reading_of v) (sum_of ra (negative rb))
+    → Expands (joined a.bases b.bases) (sum_of (reading_of a) (negative (reading_of b))) v → Alike (reading_of v) (sum_of ra (negative rb))
 minus_alike a b v ra rb first second degree pass expands =
     let kinds = common_kinds degree a b pass in
-    answer_alike (joined a.bases b.bases) (sum_of (reading_of a) (negation_of b)) (sum_of ra (negative rb)) v kinds.1
-    (sums_alike (reading_of a) ra (negation_of b) (negative rb) kinds.0 first (negatives_alike (reading_of b) rb second)) expands
+    answer_alike (joined a.bases b.bases) (sum_of (reading_of a) (negative (reading_of b))) (sum_of ra (negative rb)) v kinds.1
+    (sums_alike (reading_of a) ra (negative (reading_of b)) (negative rb) kinds.0 first (negatives_alike (reading_of b) rb second)) expands
 
 -- and a tensor product
 hash_alike : (a b v : Expansion) (ra rb : Reading) → Alike (reading_of a) ra → Alike (reading_of b) rb
@@ -200,13 +202,13 @@ times_alike a b v ra rb first second (answers lcm pass expands) =
 
 -- and a quotient, whose divisor is a scalar other than 0
 over_alike : (a b v : Expansion) (ra rb : Reading) → Alike (reading_of a) ra → Alike (reading_of b) rb → length b.bases ≡ 0 → (ratio_of b).num ≢ pos 0
-    → Expands a.bases (quotient_of a b) v → Alike (reading_of v) (combined Over ra rb)
+    → Expands a.bases (quotient (reading_of a) (reading_of b)) v → Alike (reading_of v) (combined Over ra rb)
 over_alike a b v ra rb first second none some expands =
     let by : Ratio = ratio_of b in
     let by' : Ratio = ratio rb in
     let same : by.num *ℤ pos by'.den ≡ by'.num *ℤ pos by.den = second.agree [] (no_points b.bases none) in
     let some' : by'.num ≢ pos 0 = ratio_nonzero by by' second.left second.right same some in
-    answer_alike a.bases (quotient_of a b) (combined Over ra rb) v refl
+    answer_alike a.bases (quotient (reading_of a) (reading_of b)) (combined Over ra rb) v refl
     (multiples_alike (reciprocal by).num (reciprocal by').num (reciprocal by).den (reciprocal by').den (reading_of a) ra
     (nonzero_abs by.num some) (nonzero_abs by'.num some') (reciprocal_agrees by by' second.left second.right same) first) expands
 
@@ -264,7 +266,7 @@ signed_alike false a c ra alike signs = let same : a ≡ c = cc in subst (λ (w 
 signed_alike true a c ra alike signs =
     let same : signs.0 ≡ c = cc in
     subst (λ (w : Expansion). Alike (reading_of w) (negative ra)) same
-    (answer_alike a.bases (negation_of a) (negative ra) signs.0 refl (negatives_alike (reading_of a) ra alike) signs.1)
+    (answer_alike a.bases (negative (reading_of a)) (negative ra) signs.0 refl (negatives_alike (reading_of a) ra alike) signs.1)
 
 -- a refusal with a sign is no value
 signed_refusal : (minus : Bool) (r : EvaluationRefusal) (c : Expansion) → Signs minus (Err r) (Ok c) → ⊥

@@ -13,7 +13,7 @@ use Rattle.basis_routes.specs.declared.checks.Check.{Check}
 use Rattle.basis_routes.specs.declared.checks.Check.TheVariants.{Nonzero}
 use Rattle.basis_routes.specs.declared.refusal.Refusal.{Refusal}
 use Rattle.basis_routes.specs.Checks.{Passes, IsFirstFailing}
-use Rattle.hopf_ops.specs.Operations.{negation_of, has_scalar}
+use Rattle.hopf_ops.specs.Operations.{has_scalar}
 use Rattle.session_grammar.specs.declared.expression.Expr.{Expr, out-Expr}
 use Rattle.session_grammar.specs.declared.expression.Expr.TheOpen.{Expr-F}
 use Rattle.session_grammar.specs.declared.expression.Expr.TheViews.{out-roll-Expr}
@@ -23,11 +23,13 @@ use Rattle.session_evaluation.specs.declared.operator.Operator.{Operator}
 use Rattle.session_evaluation.specs.declared.operator.Operator.TheVariants.{Plus, Minus, Hash, Times, Over}
 use Rattle.session_evaluation.specs.declared.refusal.EvaluationRefusal.{EvaluationRefusal}
 use Rattle.session_evaluation.specs.Names.{Names, value_of, AreValues}
-use Rattle.session_evaluation.specs.Evaluation.{Answer, number_value, element_value, checks_of, result_bases, result_of, Operates, answers, fails, Applies, Signs, Steps, steps_of_sum, steps_of_tensor, steps_of_product, Evaluates, number, element, known, unknown, sum, tensor_product, product as product_answer, Folds, done, refused, step}
+use Rattle.session_evaluation.specs.Evaluation.{Answer, number_value, element_value, checks_of, result_bases, Operates, answers, fails, Applies, Signs, Steps, steps_of_sum, steps_of_tensor, steps_of_product, Evaluates, number, element, known, unknown, sum, tensor_product, product as product_answer, Folds, done, refused, step}
 use Rattle.session_evaluation.proofs.KnownNames.{known_value}
 use Rattle.session_grammar.specs.declared.expression.Expr.TheOpen as form
 use Rattle.session_grammar.specs.declared.expression.Expr.TheVariants as e
 use Rattle.session_evaluation.specs.declared.refusal.EvaluationRefusal.TheVariants as refusal
+use Rattle.hopf_ops.specs.ReadingOperations.{negative}
+use Rattle.session_evaluation.specs.Operators.{combined}
 
 -- The first check that fails is one.
 pub failing_once : (checks : List Check) (r q : Refusal) → IsFirstFailing checks r → IsFirstFailing checks q → r ≡ q
@@ -57,7 +59,7 @@ times-positive true x y p q = mul-pos p q
 times-positive false x y p q = mul-pos p q
 
 -- The answer of an operation whose checks pass reads over a positive denominator.
-result-positive : (o : Operator) (a b : Expansion) (m : ℕ) → 1 ≤ a.combination.den → 1 ≤ b.combination.den → All Passes (checks_of o m a b) → 1 ≤ denominator (result_of o a b)
+result-positive : (o : Operator) (a b : Expansion) (m : ℕ) → 1 ≤ a.combination.den → 1 ≤ b.combination.den → All Passes (checks_of o m a b) → 1 ≤ denominator (combined o (reading_of a) (reading_of b))
 result-positive Plus a b m p q all = mul-pos p q
 result-positive Minus a b m p q all = mul-pos p (mul-pos {m = 1} (omega arith) q)
 result-positive Hash a b m p q all = mul-pos p q
@@ -67,7 +69,7 @@ result-positive Over a b m p q all = mul-pos (abs-positive (ratio_of b).num (all
 -- An operation on two values comes to one answer.
 pub operates_once : (o : Operator) (a b : Expansion) (r s : Answer) → 1 ≤ a.combination.den → 1 ≤ b.combination.den → Operates o a b r → Operates o a b s → r ≡ s
 operates_once o a b r s p q (answers {m = m} {v = v} l all h) (answers {m = n} {v = w} l' all' k) =
-    ap (λ (x : Expansion). Ok x) (expands_once (result_bases o a b) (result_of o a b) v w (result-positive o a b m p q all) h k)
+    ap (λ (x : Expansion). Ok x) (expands_once (result_bases o a b) (combined o (reading_of a) (reading_of b)) v w (result-positive o a b m p q all) h k)
 operates_once o a b r s p q (answers {m = m} l all h) (fails {m = n} {r = x} l' f) =
     absurd (none_fails (checks_of o m a b) x all (subst (λ k. IsFirstFailing (checks_of o k a b) x) (same_lcm _ _ n m l' l) f))
 operates_once o a b r s p q (fails {m = m} {r = x} l f) (answers {m = n} l' all k) =
@@ -107,7 +109,7 @@ applies_once o a (Err x) r s p q h k = h ∙ sym k
 signs_once : (minus : Bool) (first r s : Answer) → Positive first → Signs minus first r → Signs minus first s → r ≡ s
 signs_once false first r s p h k = h ∙ sym k
 signs_once true (Ok a) r s p (v, h, is) (w, k, is') =
-    is ∙ ap (λ (x : Expansion). Ok x) (expands_once a.bases (negation_of a) v w (mul-pos {m = 1} (omega arith) p) h k) ∙ sym is'
+    is ∙ ap (λ (x : Expansion). Ok x) (expands_once a.bases (negative (reading_of a)) v w (mul-pos {m = 1} (omega arith) p) h k) ∙ sym is'
 signs_once true (Err x) r s p h k = h ∙ sym k
 
 mutual

@@ -16,13 +16,14 @@ use Rattle.session_evaluation.specs.declared.operator.Operator.{Operator}
 use Rattle.session_evaluation.specs.Names.{Names, value_of, AreValues}
 use Rattle.session_evaluation.specs.Evaluation.{Steps, steps_of_sum, steps_of_tensor, steps_of_product, Evaluates}
 use Rattle.session_evaluation.specs.Laws.{SameMeaning}
-use Rattle.session_evaluation.specs.Meaning.{number, combined, signed, Means, number_means, element_means, name_means, sum_means, tensor_means, product_means, Combine, combined_all, combine}
+use Rattle.session_evaluation.specs.Meaning.{number, signed, Means, number_means, element_means, name_means, sum_means, tensor_means, product_means, Combine, combined_all, combine}
 use Rattle.session_evaluation.proofs.EvaluationsExist.{evaluated_value}
 use Rattle.session_evaluation.proofs.Meanings.{Alike, answer_meant}
 use Rattle.session_evaluation.proofs.SpelledElements.{spells_once}
 use Rattle.hopf_laws.proofs.Uniqueness.{expands_once}
 use Rattle.session_evaluation.proofs.OneEvaluation.{open-number, open-element, open-named, open-sum, open-tensor, open-product}
 use Rattle.session_grammar.specs.declared.expression.Expr.TheOpen as form
+use Rattle.session_evaluation.specs.Operators.{combined}
 
 -- what an expression means, at its outermost form
 data OpenedMeaning (names : Names) : Expr-F Expr Factor Signed → Reading → Type 0 where

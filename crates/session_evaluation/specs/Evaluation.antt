@@ -2,16 +2,17 @@
 use Rattle.std.specs.Prelude.{◌≡◌, ◌⊎◌, ℕ, pos, Bool, true, false, List, [], ◌∷◌, ◌++◌, map, All, Some, None, Result, Ok, Err, if◌then◌else◌}
 use Rattle.hopf_num.specs.Divisors.{IsLcm}
 use Rattle.realisations.specs.Combinations.{terms_of}
-use Rattle.realisations.specs.Readings.{Reading, tensor}
 use Rattle.basis_names.specs.declared.bases.BasisId.{BasisId}
 use Rattle.session_tokens.specs.declared.lexeme.Lexeme.{Lexeme}
 use Rattle.session_evaluation.specs.Elements.{Spells}
+use Rattle.session_evaluation.specs.Operators.{combined}
 use Rattle.hopf_laws.specs.Values.{Expansion, Expands, reading_of}
 use Rattle.basis_routes.specs.declared.checks.Check.{Check}
 use Rattle.basis_routes.specs.declared.refusal.Refusal.{Refusal}
 use Rattle.basis_routes.specs.Checks.{Passes, IsFirstFailing}
 use Rattle.basis_routes.specs.Joins.{joined}
-use Rattle.hopf_ops.specs.Operations.{sum_checks, sum_or_difference_of, negation_of, tensor_checks, product_checks, product_bases, product_of, quotient_checks, quotient_of}
+use Rattle.hopf_ops.specs.Operations.{sum_checks, tensor_checks, product_checks, product_bases, quotient_checks}
+use Rattle.hopf_ops.specs.ReadingOperations.{negative}
 use Rattle.session_grammar.specs.declared.expression.Expr.{Expr}
 use Rattle.session_grammar.specs.declared.expression.Factor.{Factor}
 use Rattle.session_grammar.specs.declared.expression.Signed.{Signed}
@@ -53,17 +54,9 @@ result_bases Hash a b = a.bases ++ b.bases
 result_bases Times a b = product_bases a b
 result_bases Over a b = a.bases
 
--- what its answer reads as
-abbrev pub result_of : Operator → Expansion → Expansion → Reading
-result_of Plus a b = sum_or_difference_of false a b
-result_of Minus a b = sum_or_difference_of true a b
-result_of Hash a b = tensor (reading_of a) (reading_of b)
-result_of Times a b = product_of a b
-result_of Over a b = quotient_of a b
-
 -- an operation on two values answers the value over its bases that reads so, or the refusal of the first of its checks that fails
 pub data Operates (o : Operator) (a b : Expansion) : Answer → Type 0 where
-  answers : {m : ℕ} {v : Expansion} → IsLcm a.combination.den b.combination.den m → All Passes (checks_of o m a b) → Expands (result_bases o a b) (result_of o a b) v
+  answers : {m : ℕ} {v : Expansion} → IsLcm a.combination.den b.combination.den m → All Passes (checks_of o m a b) → Expands (result_bases o a b) (combined o (reading_of a) (reading_of b)) v
       → Operates o a b (Ok v)
   fails : {m : ℕ} {r : Refusal} → IsLcm a.combination.den b.combination.den m → IsFirstFailing (checks_of o m a b) r → Operates o a b (Err (refusal.Value r))
 
@@ -75,7 +68,7 @@ Applies o a (Err r) answer = answer ≡ Err r
 -- the first operand of a sum, with its sign
 abbrev pub Signs : Bool → Answer → Answer → Type 0
 Signs false first answer = answer ≡ first
-Signs true (Ok a) answer = (v : Expansion) × Expands a.bases (negation_of a) v × (answer ≡ Ok v)
+Signs true (Ok a) answer = (v : Expansion) × Expands a.bases (negative (reading_of a)) v × (answer ≡ Ok v)
 Signs true (Err r) answer = answer ≡ Err r
 
 -- The later operands of an expression, each with the operation before it.

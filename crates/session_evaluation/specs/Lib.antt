@@ -4,3 +4,4 @@ pub mod Evaluation
 pub mod Laws
 pub mod Meaning
 pub mod Names
+pub mod Operators

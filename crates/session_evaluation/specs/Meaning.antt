@@ -17,28 +17,12 @@ use Rattle.session_evaluation.specs.declared.operator.Operator.TheVariants.{Plus
 use Rattle.session_evaluation.specs.Names.{Names, value_of}
 use Rattle.session_evaluation.specs.Evaluation.{Steps, steps_of_sum, steps_of_tensor, steps_of_product}
 use Rattle.session_grammar.specs.declared.expression.Expr.TheVariants as e
+use Rattle.hopf_ops.specs.ReadingOperations.{negative}
+use Rattle.session_evaluation.specs.Operators.{combined}
 
 -- a number, which has no component
 abbrev pub number : ℕ → Reading
 number n = leaf [] 1 ((pos n, []) ∷ [])
-
-abbrev pub negative : Reading → Reading
-negative a = multiple (negsuc 0) 1 a
-
--- the number that a reading without components is
-abbrev pub ratio : Reading → Ratio
-ratio a = record { num = numerator a []; den = denominator a }
-
-abbrev pub is_scalar : Reading → Bool
-is_scalar a = nat_eq (length (kinds_of a)) 0
-
--- the meaning of an operation; a product with a scalar is the tensor product, and a quotient the multiple by the reciprocal of the divisor
-abbrev pub combined : Operator → Reading → Reading → Reading
-combined Plus a b = sum_of a b
-combined Minus a b = sum_of a (negative b)
-combined Hash a b = tensor a b
-combined Times a b = if is_scalar a || is_scalar b then tensor a b else product a b
-combined Over a b = multiple (reciprocal (ratio b)).num (reciprocal (ratio b)).den a
 
 -- the first part of a sum, with its sign
 abbrev pub signed : Bool → Reading → Reading

@@ -9,15 +9,15 @@ use Rattle.hopf_num.specs.Room.{product_rule}
 use Rattle.realisations.specs.Combinations.{Combination, norm_of}
 use Rattle.linear_combos.specs.Combos.{IsMultiple}
 use Rattle.linear_combos.specs.Faults.{TestsRoom}
-use Rattle.hopf_laws.specs.Values.{ratio_of}
+use Rattle.hopf_laws.specs.Values.{ratio_of, reading_of}
 use Rattle.basis_routes.specs.declared.checks.Check.TheVariants.{Scalar, Nonzero}
 use Rattle.basis_routes.specs.Checks.{Passes, room_checks}
 use Rattle.basis_routes.proofs.Rows.{tests_back}
 use Rattle.hopf_ops.specs.Answers.{IsOver, IsAnswerOver}
-use Rattle.hopf_ops.specs.Operations.{quotient_of}
 use Rattle.hopf_ops.proofs.Rooms.{answer_expands, answer_tests_room}
 use Rattle.hopf_ops.proofs.MultiplesOfValues.{multiple_over, multiple_reads, abs-with_sign_of}
 use Rattle.hopf_ops.proofs.multiples.divide.Goals as goal
+use Rattle.hopf_ops.specs.ReadingOperations.{quotient}
 
 pub over_bases-requires : goal.over_bases-requires
 over_bases-requires c =
@@ -51,6 +51,6 @@ returns-clause-value c =
     let by : c.recip.result ≡ reciprocal (ratio_of b) = c.recip.ensures ∙ ap (λ r. reciprocal r) c.in-Some.ensures.1 in
     let multiple : IfOk c.scale.result (IsMultiple a.combination (reciprocal (ratio_of b))) =
     subst (λ (r : Ratio). IfOk c.scale.result (IsMultiple a.combination r)) by (rw (← c.combo.ensures.combination) c.scale.ensures.multiple) in
-    answer_expands (IsMultiple a.combination (reciprocal (ratio_of b))) a.bases (quotient_of a b) c.scale.result c.over_bases.result
+    answer_expands (IsMultiple a.combination (reciprocal (ratio_of b))) a.bases (quotient (reading_of a) (reading_of b)) c.scale.result c.over_bases.result
     (subst (λ bases. IsAnswerOver bases c.scale.result c.over_bases.result) (c.copy.ensures ∙ c.bases.ensures.bases) c.over_bases.ensures.answer) multiple c.over_bases.ensures.value
     (λ s is ps points. multiple_reads a (reciprocal (ratio_of b)) s is ps)

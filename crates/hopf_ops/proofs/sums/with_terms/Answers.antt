@@ -6,15 +6,16 @@ use Rattle.hopf_num.specs.Divisors.{IsLcm}
 use Rattle.hopf_num.specs.Room.{sum_rule}
 use Rattle.linear_combos.specs.Faults.{TestsRoom}
 use Rattle.realisations.specs.Combinations.{Combination, norm_of}
-use Rattle.hopf_laws.specs.Values.{degree_of_value}
+use Rattle.hopf_laws.specs.Values.{degree_of_value, reading_of}
 use Rattle.basis_routes.specs.Checks.{IsRefusalOf, room_checks}
 use Rattle.basis_routes.specs.Joins.{joined}
 use Rattle.basis_routes.proofs.Rows.{refused_front, tests_back}
 use Rattle.hopf_ops.specs.Answers.{IsOver, IsAnswerOver, IsSumOrDifference}
-use Rattle.hopf_ops.specs.Operations.{common_checks, sum_or_difference_of}
+use Rattle.hopf_ops.specs.Operations.{common_checks}
 use Rattle.hopf_ops.proofs.Rooms.{answer_tests_room, answer_expands}
 use Rattle.hopf_ops.proofs.SumsOfValues.{same_rank, sum_over, sum_reads}
 use Rattle.hopf_ops.proofs.sums.with_terms.Goals as goal
+use Rattle.hopf_ops.specs.ReadingOperations.{sum_or_difference}
 
 pub returns-in_err-bases-clause-checks : goal.returns-in_err-bases-clause-checks
 returns-in_err-bases-clause-checks c = λ m is.
@@ -66,6 +67,6 @@ returns-clause-value c =
     let a = c.args.a in
     let b = c.args.b.now in
     let sum : IfOk c.with_terms_of.result (IsSumOrDifference c.args.minus a.combination b.combination) = rw (← c.into_parts-combo.ensures.combination, ← c.combo.ensures.combination) c.with_terms_of.ensures.sum in
-    answer_expands (IsSumOrDifference c.args.minus a.combination b.combination) (joined a.bases b.bases) (sum_or_difference_of c.args.minus a b) c.with_terms_of.result c.over_bases.result
+    answer_expands (IsSumOrDifference c.args.minus a.combination b.combination) (joined a.bases b.bases) (sum_or_difference c.args.minus (reading_of a) (reading_of b)) c.with_terms_of.result c.over_bases.result
     (subst (λ bases. IsAnswerOver bases c.with_terms_of.result c.over_bases.result) c.in_ok-bases.ensures.value c.over_bases.ensures.answer) sum c.over_bases.ensures.value
     (λ s is ps points. sum_reads c.args.minus a b s c.into_parts-combo.ensures.value c.combo.ensures.value (same_rank _ a b c.in_ok-bases.ensures.checks) is ps)
