@@ -1,11 +1,17 @@
 pub mod Edits
 pub mod Equality
 pub mod Gathering
+pub mod KeysInTurn
+pub mod LastDigit
+pub mod Letters
 pub mod LowestCombos
 pub mod Merging
 pub mod Numerals
+pub mod Packed
 pub mod Place
+pub mod Powers
 pub mod RoomOfCombos
 pub mod SumsOfCombos
 pub mod Tensors
 pub mod Weights
+pub mod Words

@@ -1,6 +1,6 @@
 -- Terms with the greatest common divisor of their denominator and numerators, and what is left once it is taken out.
 use Rattle.std.proofs.Common.{◌≡◌, ◌≢◌, ℕ, suc, ◌+◌, ◌*◌, ◌/◌, ◌^◌, ◌<◌, ◌≤◌, List, [], ◌∷◌, ◌++◌, length, set, take, drop, int_div, refl, sym, ◌∙◌, ap, subst, arith, unsigned_abs}
-use Rattle.std.proofs.Math.IntN.{ℤ, pos, ◌*ℤ◌, *ℤ_comm, *ℤ-one, zero-*ℤ, pos-*ℤ-pos, one}
+use Rattle.std.proofs.Math.IntN.{ℤ, pos, ◌*ℤ◌, *ℤ-one, zero-*ℤ, pos-*ℤ-pos, one}
 use Rattle.std.proofs.Math.Nat.{one-dvd, mul-div_cancel', mul-dvd-mul_left, dvd_of_mul-dvd-mul_left, pos_of_dvd_of_pos, div-le_self, mul-one, eq-one_of_dvd-one, mul-le-mul_right, mul-div_cancel_left}
 use Rattle.std.specs.Int.{◌∣◌, IsGcd}
 use Rattle.std.specs.List.{insert}

@@ -4,3 +4,4 @@ pub mod Faults
 pub mod KeyOrder
 pub mod Keys
 pub mod Merges
+pub mod Packing

@@ -1,36 +1,44 @@
-//! Codes: the lists of letters that stand for indices of bases.
-ghost use Rattle.std.specs.Prelude.{◌≡◌, ◌<◌, ◌≤◌, List, ℕ, [], ◌++◌, length, MatchOption, slice_index, refl, nat_eq, sum};
-ghost use Rattle.std.specs.Cmp.{on_equiv, on_total, on_po, on_per, partial_equiv_from_equiv};
-ghost use Rattle.std.specs.Cmp.Lexicographic.{pointwise, slice_cmp};
+//! Codes: the lists of letters that stand for indices of bases, each in one machine word.
+ghost use Rattle.std.specs.Prelude.{◌≡◌, ◌+◌, ◌<◌, ◌≤◌, List, ℕ, [], ◌∷◌, ◌++◌, length, take, drop, MatchOption, Some, slice_index, refl, nat_eq, sum};
+ghost use Rattle.std.specs.Ordering.{nat_cmp};
+ghost use Rattle.std.specs.Cmp.{partial_equiv_from_equiv};
+ghost use Rattle.std.specs.Cmp.Lexicographic.{pointwise, slice_cmp, nat_list_eq_equiv, nat_list_cmp_total, texts_po, texts_ties};
 ghost use Rattle.linear_combos.specs.Codes.{IsCode, all_letters};
+ghost use Rattle.linear_combos.specs.Packing.{word_of};
 
 use smallvec::SmallVec;
 use std::alloc::Global;
+use std::cmp::Ordering;
 use std::marker::Model;
 
-// The most letters of a code, which lie inline, and the greatest letter.
+// The most letters of a code, and the greatest letter.
 const MOST: usize = 15;
 
-/// A list of at most 15 letters from 1 to 15.
+/// A list of at most 15 letters from 1 to 15, in one machine word.
 ///
 /// Its order is the canonical one: letter by letter, smaller letters first, a proper prefix before
-/// the longer code. No call of a code takes memory.
-#[derive(Drop, PartialEq, Eq, PartialOrd, Ord)]
+/// the longer code. The word has sixteen places of four bits. The letters are in the first ones, from
+/// the highest on, and 0 is in each place behind them; so the order of the words is that of the codes.
+/// No call of a code takes memory.
+#[derive(Clone, Copy)]
 pub struct Code {
-    letters: SmallVec<u8, 15>,
+    word: u64,
 }
 
 impl Model for Code {
     ghost use Rattle.std.specs.Prelude.{◌≡◌, List, ℕ};
-    ghost use Rattle.linear_combos.specs.Codes.{IsCode};
+    ghost use Rattle.std.proofs.Common.{ap};
+    ghost use Rattle.linear_combos.specs.Packing.{letters_in, word_of, HoldsCode};
 
     ghost Value = { List ℕ };
 
-    ghost view = { λ c. c.letters.items };
+    ghost view = { λ c. letters_in c.word };
 
-    ghost invariant = { λ c. IsCode c.letters.items × (c.letters.capacity ≡ 15) };
+    ghost invariant = { λ c. HoldsCode c.word };
 
-    ghost inverse = { λ xs. record { letters = record { items = xs; capacity = 15 } } };
+    ghost inverse = { λ xs. record { word = word_of xs } };
+
+    ghost inverse_ok = { λ a h. ap (λ w. record { word = w }) h.whole };
 }
 
 // Whether each letter is from 1 to 15.
@@ -40,46 +48,52 @@ fn are_letters(letters: &[u8]) -> bool
     letters.iter().all(|letter| 1 <= *letter && *letter <= 15)
 }
 
-// The sum of the letters of a code.
-fn total(letters: &[u8]) -> u32
-    requires { length letters.now ≤ 15 }
-    ensures { result ≡ sum letters.now }
+// The word of these letters.
+fn packed(letters: &[u8]) -> u64
+    requires { IsCode letters.now }
+    ensures { result ≡ word_of letters.now }
 {
-    let mut total = 0;
-    for letter in letters {
-        total += u32::from(*letter);
+    let mut word = 0;
+    for (at, letter) in letters.iter().enumerate() {
+        word += u64::from(*letter) << (60 - 4 * at);
     }
-    total
+    word
+}
+
+// The code of these letters, which are at most 15 and each from 1 to 15.
+fn holding(letters: &[u8]) -> Code
+    requires { IsCode letters.now }
+    ensures { result ≡ letters.now }
+{
+    let word = packed(letters);
+    Code { word }
 }
 
 impl Code {
     /// The code of these letters, or `None` exactly where there are more than 15 or one of them is
     /// not from 1 to 15.
-    pub fn new(alloc: Global, letters: &[u8]) -> Option<Code>
+    pub fn new(letters: &[u8]) -> Option<Code>
         ensures { MatchOption result (IsCode letters.now → ⊥) (λ code. (code ≡ letters.now) × IsCode letters.now) }
     {
         if letters.len() > MOST || !are_letters(letters) {
             return None;
         }
-        let letters = SmallVec::from_slice(alloc, letters).unwrap();
-        Some(Code { letters })
+        Some(holding(letters))
     }
 
     /// The code with no letter: that of every empty index.
-    pub fn empty(alloc: Global) -> Code
+    pub fn empty() -> Code
         ensures { result ≡ [] }
     {
-        Code {
-            letters: SmallVec::new(alloc),
-        }
+        Code { word: 0 }
     }
 
-    /// How many letters there are.
+    /// How many letters there are: as many as there are places before the zeros at the end.
     pub fn len(&self) -> usize
         ensures value { result ≡ length self.now }
         ensures is_code { IsCode self.now }
     {
-        self.letters.len()
+        (16 - self.word.trailing_zeros() / 4) as usize
     }
 
     /// The letter at a place, counted from 0.
@@ -87,14 +101,7 @@ impl Code {
         requires { at < length self.now }
         ensures { result ≡ slice_index self.now at }
     {
-        self.letters[at]
-    }
-
-    /// The letters as a slice.
-    pub fn as_slice(&self) -> &[u8]
-        ensures { result.now ≡ self.now }
-    {
-        self.letters.as_slice()
+        ((self.word >> (60 - 4 * at)) % 16) as u8
     }
 
     /// The sum of the letters, at most 225.
@@ -102,27 +109,110 @@ impl Code {
         ensures value { result ≡ sum self.now }
         ensures is_code { IsCode self.now }
     {
-        total(self.letters.as_slice())
+        let mut total = 0;
+        for at in 0..self.len() {
+            total += u32::from(self.letter(at));
+        }
+        total
     }
 
-    /// The same code.
-    pub fn copy(&self) -> Code
-        ensures { result ≡ self.now }
+    // The letters in an array, and how many there are.
+    fn unpacked(&self) -> ([u8; 15], usize)
+        ensures letters { take result.1 result.0 ≡ self.now }
+        ensures len { result.1 ≡ length self.now }
+        ensures is_code { IsCode self.now }
     {
-        let letters = SmallVec::from_slice(
-            *self.letters.allocator(),
-            self.letters.as_slice(),
-        ).unwrap();
-        Code { letters }
+        let mut letters = [0; 15];
+        let len = self.len();
+        for at in 0..len {
+            letters[at] = self.letter(at);
+        }
+        (letters, len)
     }
 
-    /// The code followed by more letters, which make a code with it.
-    pub fn followed_by(&self, letters: &[u8]) -> Code
-        requires { IsCode (self.now ++ letters.now) }
-        ensures { result ≡ self.now ++ letters.now }
+    /// The letters, unpacked into fifteen places, for rules that edit them one by one. It takes no
+    /// memory.
+    pub fn letters(&self, alloc: Global) -> SmallVec<u8, 15>
+        ensures { result.items ≡ self.now }
     {
-        let mut code = self.copy();
-        let _ = code.letters.extend_from_slice(letters);
-        code
+        let (letters, len) = self.unpacked();
+        SmallVec::from_slice(alloc, &letters[..len]).unwrap()
+    }
+
+    /// The code with one letter more behind the others.
+    pub fn with(&self, letter: u8) -> Code
+        requires { IsCode (self.now ++ letter ∷ []) }
+        ensures { result ≡ self.now ++ letter ∷ [] }
+    {
+        let len = self.len();
+        let word = self.word + (u64::from(letter) << (60 - 4 * len));
+        Code { word }
+    }
+
+    /// The code followed by the letters of another one, which make a code with it.
+    pub fn followed_by(&self, other: &Code) -> Code
+        requires { IsCode (self.now ++ other.now) }
+        ensures { result ≡ self.now ++ other.now }
+    {
+        let len = self.len();
+        let word = self.word + (other.word >> (4 * len));
+        Code { word }
+    }
+
+    /// The first letters of the code, as many as are asked for.
+    pub fn prefix(&self, len: usize) -> Code
+        requires { len ≤ length self.now }
+        ensures { result ≡ take len self.now }
+    {
+        let rest = self.suffix(len);
+        let word = self.word - (rest.word >> (4 * len));
+        Code { word }
+    }
+
+    /// The letters of the code behind the first ones.
+    pub fn suffix(&self, from: usize) -> Code
+        requires { from ≤ length self.now }
+        ensures { result ≡ drop from self.now }
+    {
+        let word = self.word << (4 * from);
+        Code { word }
+    }
+}
+
+impl PartialEq for Code {
+    ghost eq = { λ a b. pointwise nat_eq a b };
+
+    ghost laws = { partial_equiv_from_equiv nat_list_eq_equiv };
+
+    fn eq(&self, other: &Code) -> bool {
+        self.word == other.word
+    }
+}
+
+impl Eq for Code {
+    ghost laws = { nat_list_eq_equiv };
+}
+
+impl PartialOrd for Code {
+    ghost partial_cmp = { λ a b. Some (slice_cmp nat_cmp a b) };
+
+    ghost laws = { texts_po };
+
+    fn partial_cmp(&self, other: &Code) -> Option<Ordering> {
+        Some(self.cmp(other))
+    }
+}
+
+impl Ord for Code {
+    ghost cmp = { λ a b. slice_cmp nat_cmp a b };
+
+    ghost total = { nat_list_cmp_total };
+
+    ghost matches_partial_cmp = { λ a b. refl };
+
+    ghost matches_eq = { texts_ties };
+
+    fn cmp(&self, other: &Code) -> Ordering {
+        self.word.cmp(&other.word)
     }
 }

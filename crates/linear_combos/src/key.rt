@@ -9,34 +9,32 @@ use crate::Code;
 use std::cmp::Ordering;
 use std::marker::Model;
 
-// The codes themselves, so that a key takes no memory.
-#[derive(Drop)]
-enum Components {
-    None,
-    One(Code),
-    Two(Code, Code),
-    Three(Code, Code, Code),
-}
-
-/// A list of 0 to 3 codes, one for each component of a tensor.
+/// A list of 0 to 3 codes, one for each component of a tensor, in four machine words.
 ///
 /// Keys are ordered component by component, each in the canonical order of codes. No call of a key
 /// takes memory.
-#[derive(Drop)]
+#[derive(Clone, Copy)]
 pub struct Key {
-    codes: Components,
+    rank: u32,
+    first: Code,
+    second: Code,
+    third: Code,
 }
 
 impl Model for Key {
-    ghost use Rattle.std.specs.Prelude.{◌≤◌, List, ℕ, length};
+    ghost use Rattle.std.specs.Prelude.{List, ℕ, length};
 
     ghost Value = { List (List ℕ) };
 
-    ghost use Rattle.linear_combos.specs.Keys.{codes_of};
+    ghost use Rattle.linear_combos.specs.Keys.{codes_of, code_at, IsKey};
 
-    ghost view = { λ k. codes_of k.codes };
+    ghost view = { λ k. codes_of k.rank k.first k.second k.third };
 
-    ghost invariant = { λ k. length (codes_of k.codes) ≤ 3 };
+    ghost invariant = { λ k. IsKey k.rank k.first k.second k.third };
+
+    ghost inverse = { λ xs. record { rank = length xs; first = code_at xs 0; second = code_at xs 1; third = code_at xs 2 } };
+
+    ghost inverse_ok = { λ a h. λ i. record { rank = h.rank_is i; first = h.first_is i; second = h.second_is i; third = h.third_is i } };
 }
 
 impl Key {
@@ -45,7 +43,10 @@ impl Key {
         ensures { result ≡ [] }
     {
         Key {
-            codes: Components::None,
+            rank: 0,
+            first: Code::empty(),
+            second: Code::empty(),
+            third: Code::empty(),
         }
     }
 
@@ -54,7 +55,10 @@ impl Key {
         ensures { result ≡ a ∷ [] }
     {
         Key {
-            codes: Components::One(a),
+            rank: 1,
+            first: a,
+            second: Code::empty(),
+            third: Code::empty(),
         }
     }
 
@@ -63,7 +67,10 @@ impl Key {
         ensures { result ≡ a ∷ b ∷ [] }
     {
         Key {
-            codes: Components::Two(a, b),
+            rank: 2,
+            first: a,
+            second: b,
+            third: Code::empty(),
         }
     }
 
@@ -72,7 +79,10 @@ impl Key {
         ensures { result ≡ a ∷ b ∷ c ∷ [] }
     {
         Key {
-            codes: Components::Three(a, b, c),
+            rank: 3,
+            first: a,
+            second: b,
+            third: c,
         }
     }
 
@@ -81,12 +91,7 @@ impl Key {
         ensures value { result ≡ length self.now }
         ensures at_most { result ≤ 3 }
     {
-        match &self.codes {
-            Components::None => 0,
-            Components::One(_) => 1,
-            Components::Two(_, _) => 2,
-            Components::Three(_, _, _) => 3,
-        }
+        self.rank
     }
 
     /// The code of a component, counted from 1.
@@ -95,31 +100,10 @@ impl Key {
         requires last { component ≤ length self.now }
         ensures { result.now ≡ slice_index_or self.now (component - 1) result.now }
     {
-        match &self.codes {
-            Components::One(a) => a,
-            Components::Two(a, b) => if component == 1 { a } else { b },
-            Components::Three(a, b, c) => {
-                if component == 1 {
-                    a
-                } else if component == 2 {
-                    b
-                } else {
-                    c
-                }
-            }
-            Components::None => unreachable!(),
-        }
-    }
-
-    /// The same key.
-    pub fn copy(&self) -> Key
-        ensures { result ≡ self.now }
-    {
-        match &self.codes {
-            Components::None => Key::none(),
-            Components::One(a) => Key::one(a.copy()),
-            Components::Two(a, b) => Key::two(a.copy(), b.copy()),
-            Components::Three(a, b, c) => Key::three(a.copy(), b.copy(), c.copy()),
+        match component {
+            1 => &self.first,
+            2 => &self.second,
+            _ => &self.third,
         }
     }
 
@@ -128,17 +112,12 @@ impl Key {
         requires { length self.now + length other.now ≤ 3 }
         ensures { result ≡ self.now ++ other.now }
     {
-        match (&self.codes, &other.codes) {
-            (Components::None, _) => other.copy(),
-            (_, Components::None) => self.copy(),
-            (Components::One(a), Components::One(x)) => Key::two(a.copy(), x.copy()),
-            (Components::One(a), Components::Two(x, y)) => {
-                Key::three(a.copy(), x.copy(), y.copy())
-            }
-            (Components::Two(a, b), Components::One(x)) => {
-                Key::three(a.copy(), b.copy(), x.copy())
-            }
-            _ => unreachable!(),
+        match (self.rank, other.rank) {
+            (0, _) => *other,
+            (_, 0) => *self,
+            (1, 1) => Key::two(self.first, other.first),
+            (1, _) => Key::three(self.first, other.first, other.second),
+            _ => Key::three(self.first, self.second, other.first),
         }
     }
 }
@@ -177,29 +156,11 @@ impl Ord for Key {
     ghost matches_eq = { lists_ties (slice_cmp nat_cmp) texts_ties };
 
     fn cmp(&self, other: &Key) -> Ordering {
-        match (&self.codes, &other.codes) {
-            (Components::None, Components::None) => Ordering::Equal,
-            (Components::None, _) => Ordering::Less,
-            (_, Components::None) => Ordering::Greater,
-            (Components::One(a), Components::One(x)) => a.cmp(x),
-            (Components::One(a), Components::Two(x, _) | Components::Three(x, _, _)) => a
-                .cmp(x)
-                .then(Ordering::Less),
-            (Components::Two(a, _) | Components::Three(a, _, _), Components::One(x)) => a
-                .cmp(x)
-                .then(Ordering::Greater),
-            (Components::Two(a, b), Components::Two(x, y)) => a.cmp(x).then(b.cmp(y)),
-            (Components::Two(a, b), Components::Three(x, y, _)) => a
-                .cmp(x)
-                .then(b.cmp(y))
-                .then(Ordering::Less),
-            (Components::Three(a, b, _), Components::Two(x, y)) => a
-                .cmp(x)
-                .then(b.cmp(y))
-                .then(Ordering::Greater),
-            (Components::Three(a, b, c), Components::Three(x, y, z)) => {
-                a.cmp(x).then(b.cmp(y)).then(c.cmp(z))
-            }
-        }
+        let ranks = self.rank.cmp(&other.rank);
+        let thirds = self.third.cmp(&other.third);
+        let seconds = self.second.cmp(&other.second);
+        self.first
+            .cmp(&other.first)
+            .then(seconds.then(thirds.then(ranks)))
     }
 }

@@ -55,17 +55,17 @@ fn merge_step(
     match next(left, right, at) {
         Ordering::Less => {
             let num = scaled(left, i, left_factor);
-            sum.push(num, left[i].1.copy())?;
+            sum.push(num, left[i].1)?;
             Ok((i + 1, j))
         }
         Ordering::Equal => {
             let num = total(scaled(left, i, left_factor), scaled(right, j, right_factor));
-            sum.push(num, left[i].1.copy())?;
+            sum.push(num, left[i].1)?;
             Ok((i + 1, j + 1))
         }
         Ordering::Greater => {
             let num = scaled(right, j, right_factor);
-            sum.push(num, right[j].1.copy())?;
+            sum.push(num, right[j].1)?;
             Ok((i, j + 1))
         }
     }

@@ -45,7 +45,7 @@ pub(crate) fn copy_terms(
 {
     let mut copy = Vec::with_capacity(alloc, terms.len())?;
     for term in terms {
-        copy.push((term.0, term.1.copy()))?;
+        copy.push((term.0, term.1))?;
     }
     Ok(copy)
 }
