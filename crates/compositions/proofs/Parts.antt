@@ -1,5 +1,5 @@
 -- Compositions as codes, and their quasi-shuffles.
-use Rattle.std.proofs.Common.{◌≡◌, ℕ, zero, suc, ◌+◌, ◌*◌, ◌^◌, ◌<◌, ◌≤◌, Bool, true, false, ◌&&◌, List, [], ◌∷◌, ◌++◌, map, length, inl, inr, refl, subst, sym, ◌∙◌, ap, arith, length-append, take, drop, get_or, append_assoc, ◌-◌}
+use Rattle.std.proofs.Common.{◌≡◌, ℕ, zero, suc, ◌+◌, ◌*◌, ◌^◌, ◌<◌, ◌≤◌, Bool, true, false, ◌&&◌, List, [], ◌∷◌, ◌++◌, map, length, inl, inr, refl, subst, sym, ◌∙◌, ap, arith, length-append, drop, get_or, append_assoc}
 use Rattle.std.specs.Prelude.{nat_le}
 use Rattle.std.proofs.lemmas.List.{length-map}
 use Rattle.std.proofs.Math.Nat.{pow-suc}
@@ -46,22 +46,13 @@ pub quasi_shuffles-nil : (j : List ℕ) → quasi_shuffles j [] ≡ j ∷ []
 quasi_shuffles-nil [] = refl
 quasi_shuffles-nil (a ∷ j) = refl
 
--- a list without its first element, as a slice pattern gives it
+-- a list without its first element
 abbrev pub rest : List ℕ → List ℕ
-rest a = take (length a - 1) (drop 1 a)
-
-take_all : (a : List ℕ) (n : ℕ) → n ≡ length a → take n a ≡ a
-take_all [] zero e = refl
-take_all [] (suc n) e = refl
-take_all (x ∷ a) zero e = absurd (omega arith)
-take_all (x ∷ a) (suc n) e = ap (λ l. x ∷ l) (take_all a n (omega arith))
-
-pub rest-cons : (x : ℕ) (a : List ℕ) → rest (x ∷ a) ≡ a
-rest-cons x a = take_all a (suc (length a) - 1) (omega arith)
+rest a = drop 1 a
 
 pub parts : (a : List ℕ) → 1 ≤ length a → a ≡ get_or a 0 0 ∷ rest a
 parts [] le = absurd (omega arith)
-parts (x ∷ a) le = ap (λ l. x ∷ l) (sym (rest-cons x a))
+parts (x ∷ a) le = refl
 
 pub first_part : (a : List ℕ) → 1 ≤ length a → IsComposition a → 0 < get_or a 0 0
 first_part [] le h = absurd (omega arith)
@@ -69,7 +60,7 @@ first_part (x ∷ a) le h = h.0
 
 pub rest_parts : (a : List ℕ) → 1 ≤ length a → IsComposition a → IsComposition (rest a)
 rest_parts [] le h = absurd (omega arith)
-rest_parts (x ∷ a) le h = rw (rest-cons x a) h.1
+rest_parts (x ∷ a) le h = h.1
 
 pub one_more : (word : List ℕ) (x : ℕ) → IsComposition word → 0 < x → IsComposition (word ++ x ∷ [])
 one_more word x h lt = IsComposition-append word (x ∷ []) h (lt, tt)
@@ -79,7 +70,7 @@ pub shuffles_parts : (a b : List ℕ) → 1 ≤ length a → 1 ≤ length b →
     ++ map (λ w. (get_or a 0 0 + get_or b 0 0) ∷ w) (quasi_shuffles (rest a) (rest b))
 shuffles_parts [] b la lb = absurd (omega arith)
 shuffles_parts (x ∷ a) [] la lb = absurd (omega arith)
-shuffles_parts (x ∷ a) (y ∷ b) la lb = rw (rest-cons x a, rest-cons y b)
+shuffles_parts (x ∷ a) (y ∷ b) la lb = refl
 
 pub length-shuffles : (a b : List ℕ) → 1 ≤ length a → 1 ≤ length b →
     length (quasi_shuffles a b) ≡ length (quasi_shuffles (rest a) b) + length (quasi_shuffles a (rest b)) + length (quasi_shuffles (rest a) (rest b))
@@ -109,7 +100,7 @@ behind-first g word x (w ∷ ws) =
 
 pub sum_parts : (a : List ℕ) → 1 ≤ length a → sum a ≡ get_or a 0 0 + sum (rest a)
 sum_parts [] le = absurd (omega arith)
-sum_parts (x ∷ a) le = rw (rest-cons x a) (sum_by-cons (λ x. x) x a)
+sum_parts (x ∷ a) le = sum_by-cons (λ x. x) x a
 
 pub sum_more : (word : List ℕ) (x : ℕ) → sum (word ++ x ∷ []) ≡ sum word + x
 sum_more word x = omega (arith, sum_by-append (λ x. x) word (x ∷ []))
@@ -206,11 +197,7 @@ pow_three-le-pow_five (suc n) = rw (pow-suc 3 n, pow_five-suc n) (omega (arith, 
 pub shuffles_small : (n : ℕ) (a b : List ℕ) → length a + length b ≤ n → length (quasi_shuffles a b) ≤ 2 ^ (5 * n)
 shuffles_small n a b le = omega (arith, shuffles_bound n a b le, pow_three-le-pow_five n)
 
--- the front of one part, as a slice
-pub first_slice : (a : List ℕ) → 1 ≤ length a → take 1 a ≡ get_or a 0 0 ∷ []
-first_slice [] le = absurd (omega arith)
-first_slice (x ∷ a) le = refl
-
+-- the first part is one of them
 pub first-le-sum : (a : List ℕ) → 1 ≤ length a → get_or a 0 0 ≤ sum a
 first-le-sum a le = omega (arith, sum_parts a le)
 

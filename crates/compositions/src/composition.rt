@@ -3,7 +3,6 @@ ghost use Rattle.std.specs.Prelude.{◌≡◌, ◌≤◌, List, ℕ, sum, MatchO
 ghost use Rattle.compositions.specs.Sizes.{IsSmallComposition};
 
 use linear_combos::Code;
-use std::alloc::Global;
 use std::marker::Model;
 
 // The greatest size.
@@ -30,10 +29,18 @@ impl Model for Composition {
 impl Composition {
     /// The composition of these parts, or `None` exactly where one of them is 0 or their sum is more
     /// than 12.
-    pub fn new(alloc: Global, parts: &[u8]) -> Option<Composition>
+    pub fn new(parts: &[u8]) -> Option<Composition>
         ensures { MatchOption result (IsSmallComposition parts.now → ⊥) (λ c. (c ≡ parts.now) × IsSmallComposition parts.now) }
     {
-        let code = Code::new(alloc, parts)?;
+        let code = Code::new(parts)?;
+        Composition::of_code(code)
+    }
+
+    /// The composition whose parts are the letters of a code, or `None` exactly where their sum is more
+    /// than 12.
+    pub fn of_code(code: Code) -> Option<Composition>
+        ensures { MatchOption result (IsSmallComposition code → ⊥) (λ c. (c ≡ code) × IsSmallComposition code) }
+    {
         if code.sum() > MOST {
             return None;
         }

@@ -14,7 +14,7 @@ use std::alloc::Global;
 
 // Adds each quasi-shuffle of two lists of parts, behind the parts of a word. It recurs once for each
 // front of a quasi-shuffle.
-fn add_quasi_shuffles(out: &mut Combo, word: &Code, a: &[u8], b: &[u8]) -> Result<(), OutOfMemory>
+fn add_quasi_shuffles(out: &mut Combo, word: &Code, a: &Code, b: &Code) -> Result<(), OutOfMemory>
     requires size { sum word.now + sum a.now + sum b.now ≤ 12 }
     requires word { IsComposition word.now }
     requires first { IsComposition a.now }
@@ -33,12 +33,14 @@ fn add_quasi_shuffles(out: &mut Combo, word: &Code, a: &[u8], b: &[u8]) -> Resul
     if b.len() == 0 {
         return out.add_with_room(1, Key::one(word.followed_by(a)));
     }
-    let left = word.followed_by(&a[..1]);
-    add_quasi_shuffles(out, &left, &a[1..], b)?;
-    let right = word.followed_by(&b[..1]);
-    add_quasi_shuffles(out, &right, a, &b[1..])?;
-    let merged = word.followed_by(&[a[0] + b[0]]);
-    add_quasi_shuffles(out, &merged, &a[1..], &b[1..])
+    let (first, second) = (a.letter(0), b.letter(0));
+    let (behind_first, behind_second) = (a.suffix(1), b.suffix(1));
+    let left = word.with(first);
+    add_quasi_shuffles(out, &left, &behind_first, b)?;
+    let right = word.with(second);
+    add_quasi_shuffles(out, &right, a, &behind_second)?;
+    let merged = word.with(first + second);
+    add_quasi_shuffles(out, &merged, &behind_first, &behind_second)
 }
 
 /// The product of two monomial quasi-symmetric functions, as a combination of these.
@@ -51,7 +53,7 @@ pub fn quasi_shuffle(alloc: Global, a: &Composition, b: &Composition) -> Result<
     ensures { IfOk result (IsAnswer (QsymM ∷ []) (sum a.now + sum b.now) (product (element QsymM a.now) (element QsymM b.now))) }
 {
     let mut out = Combo::zero(alloc, 1);
-    let word = Code::empty(alloc);
-    add_quasi_shuffles(&mut out, &word, a.code().as_slice(), b.code().as_slice())?;
+    let word = Code::empty();
+    add_quasi_shuffles(&mut out, &word, a.code(), b.code())?;
     Ok(out)
 }

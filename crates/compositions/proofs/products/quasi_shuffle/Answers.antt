@@ -1,4 +1,4 @@
-use Rattle.std.proofs.Common.{◌≡◌, ◌≤◌, [], length, arith, ◌∙◌}
+use Rattle.std.proofs.Common.{◌≤◌, [], length, arith}
 use Rattle.realisations.specs.Combinations.{norm_of, IsCanonical}
 use Rattle.compositions.specs.QuasiShuffles.{quasi_shuffles, AddsShuffles}
 use Rattle.compositions.proofs.Parts.{length-le-sum, shuffles_bound}
@@ -7,16 +7,16 @@ use Rattle.compositions.proofs.products.quasi_shuffle.Goals as goal
 
 pub add_quasi_shuffles-requires-clause-room : goal.add_quasi_shuffles-requires-clause-room
 add_quasi_shuffles-requires-clause-room c =
-    let a : c.as_slice.result.now ≡ c.args.a.now = c.as_slice.ensures ∙ c.code.ensures.value in
-    let b : c.as_slice-2.result.now ≡ c.args.b.now = c.as_slice-2.ensures ∙ c.code-2.ensures.value in
+    let a = c.code.ensures.value in
+    let b = c.code-2.ensures.value in
     let ha = length-le-sum c.args.a.now c.code.ensures.small.positive in
     let hb = length-le-sum c.args.b.now c.code-2.ensures.small.positive in
     rw (a, b, c.zero-out.ensures) (omega (arith, shuffles_bound 12 c.args.a.now c.args.b.now (omega (arith, ha, hb, c.requires))))
 
 pub returns : goal.returns
 returns c =
-    let a : c.as_slice.result.now ≡ c.args.a.now = c.as_slice.ensures ∙ c.code.ensures.value in
-    let b : c.as_slice-2.result.now ≡ c.args.b.now = c.as_slice-2.ensures ∙ c.code-2.ensures.value in
+    let a = c.code.ensures.value in
+    let b = c.code-2.ensures.value in
     let norm : norm_of c.add_quasi_shuffles.new.out.terms ≤ length (quasi_shuffles c.args.a.now c.args.b.now) =
     omega (arith, rw (a, b, c.zero-out.ensures) at c.in_ok-add_quasi_shuffles.ensures.norm) in
     let adds : AddsShuffles [] c.add_quasi_shuffles.new.out.terms [] c.args.a.now c.args.b.now =
