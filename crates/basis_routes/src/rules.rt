@@ -61,8 +61,8 @@ pub fn product_of(
 {
     match basis {
         BasisId::QsymM => {
-            let left = Composition::new(alloc, left.as_slice()).unwrap();
-            let right = Composition::new(alloc, right.as_slice()).unwrap();
+            let left = Composition::of_code(*left).unwrap();
+            let right = Composition::of_code(*right).unwrap();
             quasi_shuffle(alloc, &left, &right)
         }
         BasisId::QsymF
