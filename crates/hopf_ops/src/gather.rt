@@ -102,7 +102,7 @@ pub(crate) fn add_multiple(out: &mut Combo, num: i128, by: &Combo) -> Result<(),
 {
     for at in 0..by.len() {
         let multiple = times(num, by.num_at(at));
-        out.add_with_room(multiple, by.key_at(at).copy())?;
+        out.add_with_room(multiple, *by.key_at(at))?;
     }
     Ok(())
 }

@@ -20,7 +20,7 @@ times-multiple-requires c =
 pub add_with_room-requires-clause-rank : goal.add_with_room-requires-clause-rank
 add_with_room-requires-clause-rank c =
     let here : c.loop-at.at < length c.args.by.now.terms = omega (arith, c.len-at-end.ensures.value, c.loop-at-test.true) in
-    ap (λ k. length k) (c.copy.ensures ∙ c.key_at.ensures) ∙ c.len-at-end.ensures.canonical.ordered.ranks c.loop-at.at here ∙ c.requires.rank ∙ sym c.loop-at.invariant.rank
+    ap (λ k. length k) (c.key_at.ensures) ∙ c.len-at-end.ensures.canonical.ordered.ranks c.loop-at.at here ∙ c.requires.rank ∙ sym c.loop-at.invariant.rank
 
 pub add_with_room-requires-clause-whole : goal.add_with_room-requires-clause-whole
 add_with_room-requires-clause-whole c = c.loop-at.invariant.den ∙ c.requires.whole
@@ -40,7 +40,7 @@ loop-at-preserved c =
     let other = to_z-of_z w128 c.num_at.result (record { sfits = c.num_at.type_inv }) ∙ c.num_at.ensures.value in
     let product = to_z-of_z w128 c.times-multiple.result (record { sfits = c.times-multiple.type_inv }) ∙ c.times-multiple.ensures ∙ ap (λ z. to_z w128 (of_z w128 c.args.num) *ℤ z) other in
     multiple_more c.args.out.now (to_z w128 (of_z w128 c.args.num)) c.args.by.now.terms c.loop-at.at c.loop-at.out c.loop-at.invariant here
-    c.add_with_room.new.self _ c.copy.result product (c.copy.ensures ∙ c.key_at.ensures)
+    c.add_with_room.new.self _ c.key_at.result.now product (c.key_at.ensures)
     c.in_ok-add_with_room.ensures.same_rank c.in_ok-add_with_room.ensures.same_den c.in_ok-add_with_room.ensures.adds c.in_ok-add_with_room.ensures.norm
 
 pub returns : goal.returns
