@@ -7,17 +7,16 @@ use crate::composition_in;
 use basis_names::{BasisId, algebra, limit};
 use linear_combos::Code;
 use session_tokens::Lexeme;
-use std::alloc::Global;
 
 /// The index of a basis, within the degree limit of its algebra, that the items of a list spell, as its
 /// code. Lists spell no index of a basis whose kind of index is not read yet. It takes no memory, and
 /// time in the number of items.
-pub fn index_in(alloc: Global, basis: BasisId, items: &[Lexeme]) -> Option<Code>
+pub fn index_in(basis: BasisId, items: &[Lexeme]) -> Option<Code>
     ensures { result ≡ index_spelled basis items.now }
 {
     match basis {
         BasisId::QsymM | BasisId::QsymF | BasisId::NcsfS | BasisId::NcsfL | BasisId::NcsfR =>
-            composition_in(alloc, limit(algebra(basis)), items),
+            composition_in(limit(algebra(basis)), items),
         BasisId::FqsymF | BasisId::FqsymG | BasisId::WqsymM | BasisId::FsymS | BasisId::PbtP =>
             None,
     }
@@ -46,12 +45,12 @@ fn inside_length(lexemes: &[Lexeme]) -> usize
 
 /// Whether lexemes begin with the name of a basis and a list that spells no index of it. It takes no
 /// memory, and time in the length of the list.
-pub fn begins_bad_list(alloc: Global, lexemes: &[Lexeme]) -> bool
+pub fn begins_bad_list(lexemes: &[Lexeme]) -> bool
     ensures { result ≡ begins_with_bad_list lexemes.now }
 {
     match lexemes {
         [Lexeme::Basis(basis), Lexeme::LeftBracket, behind @ ..] => {
-            index_in(alloc, *basis, &behind[..inside_length(behind)]).is_none()
+            index_in(*basis, &behind[..inside_length(behind)]).is_none()
         }
         _ => false,
     }
