@@ -35,7 +35,7 @@ fn reserved_name(alloc: Global, lexemes: &[Lexeme]) -> Result<Option<Name>, OutO
 fn flaw_of_statement(alloc: Global, lexemes: &[Lexeme]) -> Result<Option<Flaw>, OutOfMemory>
     ensures { IfOk result (λ flaw. MatchOption flaw (IsFlawless lexemes.now) (λ f. IsFlawOfStatement lexemes.now f)) }
 {
-    let sights = Sights::of(alloc, lexemes);
+    let sights = Sights::of(lexemes);
     if let Some(place) = sights.large_number {
         return Ok(Some(Flaw::LargeNumber(place)));
     }

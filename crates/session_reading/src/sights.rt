@@ -6,7 +6,6 @@ ghost use Rattle.session_reading.specs.Sights.{found_or as first_found};
 use built_forms::begins_unbuilt;
 use index_spellings::begins_bad_list;
 use session_tokens::{Lexeme, NUMBER_LIMIT};
-use std::alloc::Global;
 
 /// The first places, counted from 0, at which something is seen that is refused.
 #[derive(Clone, Copy, Debug, PartialEq, Eq)]
@@ -45,7 +44,7 @@ impl Sights {
     ghost use Rattle.session_reading.specs.Sights.{AreFound};
 
     /// What is seen in lexemes. It takes no memory, and one pass.
-    pub fn of(alloc: Global, lexemes: &[Lexeme]) -> Sights
+    pub fn of(lexemes: &[Lexeme]) -> Sights
         ensures { AreFound lexemes.now (length lexemes.now) result }
     {
         let mut sights = Sights {
@@ -54,19 +53,19 @@ impl Sights {
             bad_list: None,
         };
         for place in 0..lexemes.len() {
-            sights.look(alloc, &lexemes[place..], place);
+            sights.look(&lexemes[place..], place);
         }
         sights
     }
 
     // Looks at what begins at a place.
-    fn look(&mut self, alloc: Global, rest: &[Lexeme], place: usize)
+    fn look(&mut self, rest: &[Lexeme], place: usize)
         ensures large_number { self.new.large_number ≡ first_found self.old.large_number (begins_large rest.now) place }
         ensures unbuilt { self.new.unbuilt ≡ first_found self.old.unbuilt (begins_with_unbuilt rest.now) place }
         ensures bad_list { self.new.bad_list ≡ first_found self.old.bad_list (begins_with_bad_list rest.now) place }
     {
         self.large_number = found_or(self.large_number, is_large(rest), place);
         self.unbuilt = found_or(self.unbuilt, begins_unbuilt(rest), place);
-        self.bad_list = found_or(self.bad_list, begins_bad_list(alloc, rest), place);
+        self.bad_list = found_or(self.bad_list, begins_bad_list(rest), place);
     }
 }
