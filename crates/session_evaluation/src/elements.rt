@@ -19,7 +19,7 @@ pub fn value_of_element(
     requires { IsSpelled basis items.now }
     ensures { OrMemory (IsElement basis items.now) result }
 {
-    let Some(code) = index_in(alloc, basis, items) else {
+    let Some(code) = index_in(basis, items) else {
         unreachable!()
     };
     match Value::element(alloc, basis, code) {
