@@ -6,13 +6,13 @@ use linear_combos::Code;
 use std::alloc::Global;
 use std::test::Fail;
 
-fn code(alloc: Global, letters: &[u8]) -> Result<Code, Fail> {
-    Ok(Code::new(alloc, letters).ok_or("no code")?)
+fn code(letters: &[u8]) -> Result<Code, Fail> {
+    Ok(Code::new(letters).ok_or("no code")?)
 }
 
 /// The element of a composition of at most 10.
 fn monomial(alloc: Global, parts: &[u8]) -> Result<Value, Fail> {
-    let code = code(alloc, parts)?;
+    let code = code(parts)?;
     if !is_index(BasisId::QsymM, &code) {
         return Err(Fail::from("no index"));
     }
@@ -38,7 +38,7 @@ fn indices_within_the_limit(rt: HostRuntime) -> Result<(), Fail> {
         (&[5, 6], false),
         (&[1; 11], false),
     ] {
-        let code = code(rt.alloc(), letters)?;
+        let code = code(letters)?;
         assert_eq!(rt; is_index(BasisId::QsymM, &code), answer);
     }
     assert_eq!(rt; join(BasisId::QsymM, BasisId::QsymM), Some(BasisId::QsymM));

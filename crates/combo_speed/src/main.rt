@@ -23,7 +23,7 @@ fn composition_of_10(alloc: Global, number: u32) -> Result<Code, OutOfMemory> {
         }
     }
     parts.push(part)?;
-    Code::new(alloc, parts.as_slice()).ok_or(OutOfMemory)
+    Code::new(parts.as_slice()).ok_or(OutOfMemory)
 }
 
 fn scattered_terms(alloc: Global, times: u32) -> Result<Combo, OutOfMemory> {

@@ -44,7 +44,7 @@ fn scalars(rt: HostRuntime) -> Result<(), Fail> {
 
 /// The element of this code, which is to be a composition of at most 10.
 fn element(alloc: Global, letters: &[u8]) -> Result<Value, Fail> {
-    let code = Code::new(alloc, letters).ok_or("no code")?;
+    let code = Code::new(letters).ok_or("no code")?;
     if !is_index(BasisId::QsymM, &code) {
         return Err(Fail::from("no index"));
     }
@@ -69,7 +69,7 @@ fn elements(rt: HostRuntime) -> Result<(), Fail> {
 /// A basis element is appended to what was there.
 #[test]
 fn elements_are_appended(rt: HostRuntime) -> Result<(), Fail> {
-    let code = Code::new(rt.alloc(), &[1, 3]).ok_or("no code")?;
+    let code = Code::new(&[1, 3]).ok_or("no code")?;
     let mut out = Bytes::new(rt.alloc());
     out.push_all(b"1 + ")?;
     print_index(rt.alloc(), BasisId::QsymM, &code, &mut out)?;

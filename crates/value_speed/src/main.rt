@@ -28,7 +28,7 @@ fn composition(alloc: Global, degree: u32, number: u32) -> Result<Value, Refusal
     if degree > 0 {
         parts.push(part).map_err(|_| Refusal::Memory)?;
     }
-    let code = Code::new(alloc, parts.as_slice()).ok_or(Refusal::Memory)?;
+    let code = Code::new(parts.as_slice()).ok_or(Refusal::Memory)?;
     if !is_index(BasisId::QsymM, &code) {
         return Err(Refusal::Memory);
     }
