@@ -1,4 +1,4 @@
--- The quasi-shuffles of two compositions, which the recursion of the code goes by. The public contract speaks of the product of readings alone.
+-- Nothing here need be believed: the quasi-shuffles of two compositions, which the recursion of the code goes by. The public contract speaks of the product of readings alone.
 use Rattle.std.specs.Prelude.{◌≡◌, ℕ, ℤ, ◌+◌, ◌+ℤ◌, ◌⊎◌, List, [], ◌∷◌, ◌++◌, map}
 use Rattle.std.specs.List.{sum}
 use Rattle.realisations.specs.Combinations.{HasKey, weighed}

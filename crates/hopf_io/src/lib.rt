@@ -7,13 +7,15 @@
 #![tactic(auto)]
 
 mod bytes;
+mod calls;
 mod memory_sink;
 mod memory_source;
 mod sink;
 mod source;
 mod standard;
 
-pub use bytes::{Bytes, Calls};
+pub use bytes::Bytes;
+pub use calls::Calls;
 pub use memory_sink::MemorySink;
 pub use memory_source::MemorySource;
 pub use sink::{Sink, send_all};

@@ -5,15 +5,15 @@
 //! crate takes memory.
 #![tactic(auto)]
 
-mod exact_arithmetic;
 mod decimal;
 mod divisors;
+mod exact_arithmetic;
 mod fraction;
 mod memory;
 mod room;
 
-pub use exact_arithmetic::{product, quotient};
 pub use divisors::{gcd, lcm};
+pub use exact_arithmetic::{product, quotient};
 pub use fraction::Fraction;
 pub use memory::OutOfMemory;
 pub use room::{Need, NumFault, fits};

@@ -1,4 +1,4 @@
--- From combinations to values.
+-- Nothing here need be believed: from combinations to values, for the contracts of private functions.
 use Rattle.std.specs.Prelude.{◌≡◌, ◌≤◌, Bool, true, false, List, length, Result, Ok, Err}
 use Rattle.realisations.specs.Codes.{Key}
 use Rattle.realisations.specs.Combinations.{Combination, HasKey}

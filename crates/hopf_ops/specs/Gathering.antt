@@ -1,4 +1,4 @@
--- The product of two combinations over the same bases, without their denominators.
+-- Nothing here need be believed: the product of two combinations over the same bases, without their denominators, for the contracts of private functions.
 use Rattle.std.specs.Prelude.{◌≡◌, ℕ, ◌+◌, ◌*◌, ◌^◌, ◌<◌, ◌≤◌, ◌⊎◌, ℤ, ◌+ℤ◌, ◌*ℤ◌, List, length, map, take, unsigned_abs}
 use Rattle.realisations.specs.Codes.{Key}
 use Rattle.realisations.specs.Answers.{IsAnswer}

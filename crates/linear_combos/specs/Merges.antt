@@ -1,4 +1,4 @@
--- Terms on the way to canonical form: sums and products over a denominator that may have a factor in common with them.
+-- Nothing here need be believed: terms on the way to canonical form, over a denominator that may have a factor in common with them, for the contracts of private functions.
 use Rattle.std.specs.Prelude.{◌≡◌, ℕ, ◌+◌, ◌*◌, ◌^◌, ◌<◌, ◌≤◌, ◌⊎◌, ℤ, pos, int_div, ◌+ℤ◌, ◌*ℤ◌, List, ◌++◌, length, map, take, unsigned_abs}
 use Rattle.std.specs.declared.cmp.Ordering.{Ordering}
 use Rattle.std.specs.declared.cmp.Ordering.TheVariants.{Less, Equal, Greater}

@@ -10,7 +10,7 @@ ghost use Rattle.linear_combos.specs.Merges.{IsCombined, IsOver, IsSignedSum};
 ghost use Rattle.linear_combos.specs.Faults.{TestsRoom, IsTested};
 
 use crate::Key;
-use crate::lowest::{Unreduced, common_divisor, divide};
+use crate::unreduced::{Unreduced, common_divisor, divide};
 use crate::merge::merge;
 use crate::tensor::add_products;
 use crate::terms::{copy_terms, place, remove_term};

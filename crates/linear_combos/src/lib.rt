@@ -6,10 +6,10 @@ mod code;
 mod codes;
 mod combo;
 mod key;
-mod lowest;
 mod merge;
 mod tensor;
 mod terms;
+mod unreduced;
 
 pub use code::Code;
 pub use codes::Codes;

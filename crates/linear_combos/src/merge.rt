@@ -4,7 +4,7 @@ ghost use Rattle.realisations.specs.Combinations.{AreTerms, HasRisingKeys, norm_
 ghost use Rattle.linear_combos.specs.Merges.{IsNext, IsMerged};
 
 use crate::Key;
-use crate::lowest::Unreduced;
+use crate::unreduced::Unreduced;
 use hopf_num::{OutOfMemory, product};
 use std::cmp::Ordering;
 

@@ -4,7 +4,7 @@ ghost use Rattle.realisations.specs.Combinations.{term_at};
 ghost use Rattle.linear_combos.specs.Merges.{AreFactors, AreProducts};
 
 use crate::Combo;
-use crate::lowest::Unreduced;
+use crate::unreduced::Unreduced;
 use hopf_num::{OutOfMemory, product};
 
 // Adds the product of each term of the first combination with each of the second, in the order of

@@ -2,7 +2,7 @@ use Rattle.std.proofs.Common.{[], ◌∷◌, ◌++◌, ◌∙◌, ap}
 use Rattle.std.proofs.lemmas.Int.{to_z-of_z}
 use Rattle.linear_combos.proofs.LowestCombos.{adds-push}
 use mir.Syntax.{w128}
-use Rattle.linear_combos.proofs.lowest.Unreduced.push.Goals as goal
+use Rattle.linear_combos.proofs.unreduced.Unreduced.push.Goals as goal
 
 pub returns-in_ok-put_last-clause-adds : goal.returns-in_ok-put_last-clause-adds
 returns-in_ok-put_last-clause-adds c =

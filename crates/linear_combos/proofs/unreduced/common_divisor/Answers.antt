@@ -7,7 +7,7 @@ use Rattle.realisations.specs.Combinations.{term_at}
 use Rattle.linear_combos.specs.Merges.{IsCommon}
 use Rattle.linear_combos.proofs.LowestCombos.{IsCommon-push, IsCommon-front}
 use mir.Syntax.{w128}
-use Rattle.linear_combos.proofs.lowest.common_divisor.Goals as goal
+use Rattle.linear_combos.proofs.unreduced.common_divisor.Goals as goal
 
 pub loop-term-preserved : goal.loop-term-preserved
 loop-term-preserved c =

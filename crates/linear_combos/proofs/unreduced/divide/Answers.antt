@@ -1,7 +1,7 @@
 use Rattle.std.proofs.Common.{sym, ◌∙◌, ap, arith}
 use Rattle.linear_combos.specs.Merges.{quotients}
 use Rattle.linear_combos.proofs.LowestCombos.{quotients-one, quotient_step}
-use Rattle.linear_combos.proofs.lowest.divide.Goals as goal
+use Rattle.linear_combos.proofs.unreduced.divide.Goals as goal
 
 pub returns-then-by-eq1 : goal.returns-then-by-eq1
 returns-then-by-eq1 c = sym (ap (λ g. quotients g c.args.terms.now.items) c.if-by-eq1.true ∙ quotients-one c.args.terms.now.items)

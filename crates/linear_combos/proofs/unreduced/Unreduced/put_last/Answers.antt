@@ -5,7 +5,7 @@ use Rattle.realisations.specs.Combinations.{norm_of}
 use Rattle.linear_combos.specs.Combos.{IsGapFor}
 use Rattle.linear_combos.proofs.LowestCombos.{IsUnreduced-push}
 use mir.Syntax.{w128}
-use Rattle.linear_combos.proofs.lowest.Unreduced.put_last.Goals as goal
+use Rattle.linear_combos.proofs.unreduced.Unreduced.put_last.Goals as goal
 
 pub invariant_of-self-2 : goal.invariant_of-self-2
 invariant_of-self-2 c =
