@@ -76,7 +76,7 @@ rank_in-packed u h (suc x) le =
     omega (arith, rank_in-suc u x, one, rank_in-packed u h x (omega arith))
 
 -- each letter is at most the greatest
-letters_to_greatest : (w : List ℕ) (n : ℕ) → greatest w ≤ n → Letters (λ x. x ≤ n) w
+pub letters_to_greatest : (w : List ℕ) (n : ℕ) → greatest w ≤ n → Letters (λ x. x ≤ n) w
 letters_to_greatest [] n h = tt
 letters_to_greatest (x ∷ w) n h = (omega arith, letters_to_greatest w n (omega arith))
 

@@ -45,21 +45,21 @@ rank_in_rises (z ∷ w) x y m h =
         omega (arith, at_last (is_among z w) (ap (λ n. is_among n w) same ∙ e) same)
 
 -- the letters of a word
-abbrev IsLetterOf : List ℕ → ℕ → Type 0
+abbrev pub IsLetterOf : List ℕ → ℕ → Type 0
 IsLetterOf w x = is_among x w ≡ true
 
 letters_of_longer : (w : List ℕ) (z : ℕ) (u : List ℕ) → Letters (IsLetterOf w) u → Letters (IsLetterOf (z ∷ w)) u
 letters_of_longer w z [] h = tt
 letters_of_longer w z (x ∷ u) h = (or_right (nat_eq z x) (is_among x w) h.0, letters_of_longer w z u h.1)
 
-letters_of : (w : List ℕ) → Letters (IsLetterOf w) w
+pub letters_of : (w : List ℕ) → Letters (IsLetterOf w) w
 letters_of [] = tt
 letters_of (x ∷ w) =
     let e : nat_eq x x ≡ true = eq-eqb x x refl in
     rw e (refl, letters_of_longer w x w (letters_of w))
 
 module _ (w : List ℕ) where
-  rises : Rises (IsLetterOf w) (λ x. rank_in w x)
+  pub rises : Rises (IsLetterOf w) (λ x. rank_in w x)
   rises x y hx hy h = rank_in_rises w x y hy h
 
   pub pack-pack : pack (pack w) ≡ pack w

@@ -96,7 +96,7 @@ module _ (P : ℕ → Type 0) (f : ℕ → ℕ) (rises : Rises P f) where
   max-zero : (n : ℕ) → max n 0 ≡ n
   max-zero n = omega arith
 
-  greatest-map : (x : ℕ) (w : List ℕ) → P x → Letters P w → greatest (f x ∷ map f w) ≡ f (greatest (x ∷ w))
+  pub greatest-map : (x : ℕ) (w : List ℕ) → P x → Letters P w → greatest (f x ∷ map f w) ≡ f (greatest (x ∷ w))
   greatest-map x [] hx h = max-zero (f x) ∙ ap f (sym (max-zero x))
   greatest-map x (y ∷ w) hx h = ap (λ n. max (f x) n) (greatest-map y w h.0 h.1) ∙ max-map x (greatest (y ∷ w)) hx (greatest-has y w h.0 h.1)
     where

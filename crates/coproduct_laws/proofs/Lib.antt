@@ -1,0 +1,13 @@
+pub mod AddedPairs
+pub mod CoproductCounts
+pub mod CutLetters
+pub mod LowAndHigh
+pub mod PackedShuffles
+pub mod RangeSums
+pub mod Rearrangements
+pub mod ShuffleCounts
+pub mod Shuffling
+pub mod StandardShuffles
+pub mod ValueCuts
+pub mod ValuePairs
+pub mod ValueRules

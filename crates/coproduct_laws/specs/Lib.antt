@@ -1,0 +1,5 @@
+pub mod AddedPairs
+pub mod Coproducts
+pub mod KnownCuts
+pub mod Laws
+pub mod ValueCuts
