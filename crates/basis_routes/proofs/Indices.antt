@@ -1,5 +1,5 @@
 -- Indices of a basis, by their codes.
-use Rattle.std.proofs.Common.{◌≡◌, ℕ, ◌≤◌, ◌↔◌, Bool, true, false, IsTrue, List, refl}
+use Rattle.std.proofs.Common.{◌≡◌, ℕ, ◌↔◌, Bool, false, IsTrue, List, refl}
 use Rattle.std.specs.Prelude.{nat_le}
 use Rattle.std.specs.List.{sum}
 use Rattle.std.proofs.lemmas.Bool.{leb-true, le-leb}

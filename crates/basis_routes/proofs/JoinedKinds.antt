@@ -1,5 +1,5 @@
 -- Bases with a join are read at points of one kind, and so is their join.
-use Rattle.std.proofs.Common.{◌≡◌, Bool, true, false, ◌&&◌, List, [], ◌∷◌, map, length, Option, Some, None, refl, ap, arith}
+use Rattle.std.proofs.Common.{◌≡◌, Bool, true, false, ◌&&◌, List, [], ◌∷◌, map, length, Option, Some, None, refl, arith}
 use Rattle.std.specs.Prelude.{All, IsSome, unwrap_or}
 use Rattle.std.specs.List.{list_all, AllPass}
 use Rattle.std.proofs.lemmas.List.Elements.{All-head, All-tail}

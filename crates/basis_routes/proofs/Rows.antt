@@ -1,5 +1,5 @@
 -- Rows of checks, tested part by part.
-use Rattle.std.proofs.Common.{◌≡◌, ◌⊎◌, suc, List, [], ◌∷◌, ◌++◌, Result, Ok, Err, inl, inr, refl, sym, ap, subst, arith}
+use Rattle.std.proofs.Common.{suc, List, [], ◌∷◌, ◌++◌, Result, Ok, Err, inl, inr, ap, arith}
 use Rattle.std.specs.Prelude.{All}
 use Rattle.std.proofs.lemmas.List.Elements.{All-append, All-nil, All-cons, All-head, All-tail}
 use Rattle.hopf_num.specs.declared.room.Need.{Need}

@@ -1,5 +1,5 @@
 -- The rules on indices have answers.
-use Rattle.std.proofs.Common.{◌≡◌, ℕ, ◌+◌, ◌≤◌, IsTrue, List, [], ◌∷◌, arith}
+use Rattle.std.proofs.Common.{ℕ, ◌+◌, ◌≤◌, IsTrue, List, [], ◌∷◌, arith}
 use Rattle.built_bases.specs.Table.{is_built}
 use Rattle.realisations.specs.Answers.{IsAnswer}
 use Rattle.realisations.specs.Combinations.{Combination}

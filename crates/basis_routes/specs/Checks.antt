@@ -1,5 +1,5 @@
 -- Rows of checks: an operation is refused by the first of its checks that fails.
-use Rattle.std.specs.Prelude.{◌≡◌, ◌≢◌, ℕ, ◌≤◌, ◌⊎◌, ℤ, pos, List, [], ◌∷◌, map, All, IsSome, Result, MatchResult}
+use Rattle.std.specs.Prelude.{◌≡◌, ◌≢◌, ◌≤◌, ◌⊎◌, pos, List, map, All, IsSome, Result, MatchResult}
 use Rattle.hopf_num.specs.declared.room.Need.{Need}
 use Rattle.hopf_num.specs.FirstFailing.{IsFirstThatFails}
 use Rattle.hopf_num.specs.Room.{HasRoom, IsNeed}

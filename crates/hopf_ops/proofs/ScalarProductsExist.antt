@@ -1,5 +1,5 @@
 -- The law of existence for products with a scalar, which are tensor products.
-use Rattle.std.proofs.Common.{◌≡◌, ℕ, ◌+◌, ◌*◌, ◌^◌, ◌<◌, ◌≤◌, ◌⊎◌, inl, inr, Bool, true, false, ◌++◌, length, refl, sym, subst, arith}
+use Rattle.std.proofs.Common.{◌≡◌, ℕ, ◌+◌, ◌*◌, ◌^◌, ◌<◌, ◌≤◌, ◌⊎◌, inl, inr, Bool, true, false, ◌++◌, length, refl, ◌∙◌, sym, subst, arith}
 use Rattle.std.specs.Prelude.{All, if◌then◌else◌, nat_eq, ◌||◌}
 use Rattle.std.proofs.lemmas.Bool.{eqb-true}
 use Rattle.std.proofs.lemmas.List.{length-map}
@@ -35,7 +35,7 @@ scalar_short m n hm hn (inr none) = omega arith
 pub scalar_product_value : (a b : Expansion) → IsValue a → IsValue b → has_scalar a b ≡ true → All Passes (product_room 0 a b)
     → (v : Expansion) × Expands (a.bases ++ b.bases) (tensor (reading_of a) (reading_of b)) v
 scalar_product_value a b ha hb scalar pass =
-    let none : (length a.bases ≡ 0) ⊎ (length b.bases ≡ 0) = one_none (length a.bases) (length b.bases) ((λ i. nat_eq (length-map a.bases kind_of (~ i)) 0 || nat_eq (length-map b.bases kind_of (~ i)) 0) ∙ scalar) in
+    let none : (length a.bases ≡ 0) ⊎ (length b.bases ≡ 0) = one_none (length a.bases) (length b.bases) (sym (λ i. nat_eq (length-map a.bases kind_of i) 0 || nat_eq (length-map b.bases kind_of i) 0) ∙ scalar) in
     let norms : norm_of a.combination.terms * norm_of b.combination.terms * 2 ^ 0 < 2 ^ 127 = room_of_norms 0 a b pass in
     tensor_value a b ha hb (scalar_short (length a.bases) (length b.bases) ha.short hb.short none) (scalar_within a b ha hb none) (room_of_dens 0 a b pass) (omega (arith, norms))
 

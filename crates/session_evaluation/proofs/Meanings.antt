@@ -121,10 +121,6 @@ no_points : (bases : List BasisId) → length bases ≡ 0 → ArePoints (kinds_o
 no_points [] none = tt
 no_points (basis ∷ bases) none = absurd (omega arith)
 
--- there is one kind for each basis
-length-kinds : (bases : List BasisId) → length (kinds_over bases) ≡ length bases
-length-kinds bases = length-map bases kind_of
-
 -- the kinds of a list of bases and another
 kinds-append : (lefts rights : List BasisId) → kinds_over (lefts ++ rights) ≡ kinds_over lefts ++ kinds_over rights
 kinds-append lefts rights = map-append kind_of lefts rights
@@ -137,10 +133,6 @@ expands_alike bases q v kinds positive expands = record {
   right = positive;
   agree = λ ps points. expands.reads ps (subst (λ (bs : List BasisId). ArePoints (kinds_over bs) ps) expands.over points);
 }
-
--- a reading like a value has one kind for each of its bases
-length-alike : (v : Expansion) (r : Reading) → Alike (reading_of v) r → length v.bases ≡ length (kinds_of r)
-length-alike v r alike = sym (length-kinds v.bases) ∙ ap (λ (ks : List Kind). length ks) alike.kinds
 
 -- so it is like each reading that this reading is like
 answer_alike : (bases : List BasisId) (q r : Reading) (v : Expansion) → kinds_of q ≡ kinds_over bases → Alike q r → Expands bases q v → Alike (reading_of v) r
@@ -192,7 +184,7 @@ product_alike false a b v ra rb first second pass expands =
 
 -- one of two values is a scalar where one of their readings is
 same_scalars : (a b : Expansion) (ra rb : Reading) → Alike (reading_of a) ra → Alike (reading_of b) rb → has_scalar a b ≡ (is_scalar ra || is_scalar rb)
-same_scalars a b ra rb first second = λ i. nat_eq (length-alike a ra first i) 0 || nat_eq (length-alike b rb second i) 0
+same_scalars a b ra rb first second = λ i. nat_eq (length (first.kinds i)) 0 || nat_eq (length (second.kinds i)) 0
 
 -- so a product is like the product that it means
 times_alike : (a b v : Expansion) (ra rb : Reading) → Alike (reading_of a) ra → Alike (reading_of b) rb → Operates Times a b (Ok v) → Alike (reading_of v) (combined Times ra rb)

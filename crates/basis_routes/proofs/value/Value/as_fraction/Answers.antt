@@ -1,4 +1,4 @@
-use Rattle.std.proofs.Common.{◌≡◌, ℤ, pos, length, ap, sym, subst, arith, ◌∙◌, to_z, of_z, ◌*ℤ◌}
+use Rattle.std.proofs.Common.{◌≡◌, length, ap, sym, subst, arith, ◌∙◌, to_z}
 use Rattle.std.specs.Int.{w128}
 use Rattle.std.proofs.lemmas.Int.{to_z-of_z}
 use Rattle.realisations.specs.Combinations.{AreTerms}

@@ -1,7 +1,6 @@
-use Rattle.std.proofs.Common.{◌≡◌, ◌+◌, ◌<◌, ◌∙◌, ap, sym, arith, subst, take, length, max}
+use Rattle.std.proofs.Common.{◌≡◌, ◌<◌, ◌∙◌, ap, sym, arith, subst, length, max}
 use Rattle.realisations.specs.Combinations.{term_at}
 use Rattle.realisations.specs.Indices.{total_degree}
-use Rattle.hopf_laws.specs.Values.{greatest_degree}
 use Rattle.basis_routes.proofs.Degrees.{greatest_degree-more, least_limit-small}
 use Rattle.basis_routes.proofs.value.Value.degree.Goals.{then-greatest-degree, else-greatest-degree}
 use Rattle.basis_routes.proofs.value.Value.degree.Goals as goal
