@@ -64,6 +64,9 @@ pub struct StdSource<R: Input> {
 
 impl<R: Input> StdSource<R> {
     /// The standard input of a runtime, with no byte given and no fault counted.
+    ///
+    /// What a runtime's reader tells of its content no clause of the standard library says, so none
+    /// says here what is left to read.
     pub fn new(rt: &R) -> StdSource<R>
         ensures given { result.given ≡ 0 }
         ensures faults { result.faults ≡ 0 }
@@ -115,8 +118,12 @@ pub struct StdSink<W: Write> {
 }
 
 impl<W: Write + Drop> StdSink<W> {
-    /// A sink over a writer, with no fault counted.
+    /// A sink over a writer, with no fault counted. It has written nothing: what the writer tells of
+    /// its content is as it was, and no byte waits for a flush of this sink.
     pub fn new(writer: W) -> StdSink<W>
+        ensures over { result.writer ≡ writer }
+        ensures taken { W.contents result.writer ≡ W.contents writer }
+        ensures flushed { result.is_flushed ≡ true }
         ensures faults { result.faults ≡ 0 }
     {
         StdSink {
