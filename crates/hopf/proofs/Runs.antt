@@ -11,8 +11,9 @@ use Rattle.hopf.specs.declared.status.Status.{Status}
 use Rattle.hopf.specs.declared.status.Status.TheVariants.{Memory, WriteFault}
 use Rattle.session_evaluation.specs.Names.{Names}
 use Rattle.hopf.specs.Outcomes.{is_refusal}
-use Rattle.hopf.specs.Transcript.{lines, count_refused, some_refused}
-use Rattle.hopf.specs.Sessions.{Script, Runs, StopsWhole}
+use Rattle.hopf.specs.Transcript.{IsScript, lines, count_refused, some_refused}
+use Rattle.hopf.specs.Sessions.{Pends, Script, Runs, StopsWhole, WholeIfSteady}
+use Rattle.hopf.proofs.Sessions.{at_kept}
 use Rattle.hopf.specs.Runs.{is_refused, WritesTranscript, WritesPrefix, HasRoom}
 
 -- what is said of all that was read is said of all that was left
@@ -31,31 +32,38 @@ count_refused-some [] = refl
 count_refused-some (o ∷ os) =
     ap (nat_lt 0) (sum_by-cons (λ (x : Outcome). if is_refusal x then 1 else 0) o os) ∙ some_more (is_refusal o) (count_refused os) (some_refused os) (count_refused-some os)
 
+-- the scripts of a new session
+script_of_new : (s : Session) (bytes : List ℕ) (os : List Outcome) (left : Names) → s.names ≡ [] → Pends [] s → IsScript [] bytes os left → Script s bytes os left
+script_of_new s bytes os left names pends script = ([], pends, subst (λ (n : Names). IsScript n bytes os left) (sym names) script)
+
+from_script_of_new : (s : Session) (bytes : List ℕ) (os : List Outcome) (left : Names) → s.names ≡ [] → Pends [] s → Script s bytes os left → IsScript [] bytes os left
+from_script_of_new s bytes os left names (no_end, kept) script =
+    subst (λ (n : Names). IsScript n bytes os left) names (subst (λ (l : List ℕ). IsScript s.names (l ++ bytes) os left) kept (at_kept s bytes os left script))
+
 -- a new session ran the whole input
-pub transcript_of_new : (s new : Session) (status : Status) (bytes : List ℕ) (t t' : Option (List ℕ)) → s.names ≡ [] → s.pending ≡ [] → s.statements ≡ 0 → s.refused ≡ 0
+pub transcript_of_new : (s new : Session) (status : Status) (bytes : List ℕ) (t t' : Option (List ℕ)) → s.names ≡ [] → Pends [] s → s.statements ≡ 0 → s.refused ≡ 0
     → is_refused status ≡ nat_lt 0 new.refused → Runs s new bytes t t' → WritesTranscript status bytes t t'
-transcript_of_new s new status bytes t t' names pending statements refused is h = record {
+transcript_of_new s new status bytes t t' names pends statements refused is h = record {
   outcomes = h.outcomes;
   names = new.names;
-  are = rw (names, pending) at h.are;
+  are = from_script_of_new s bytes h.outcomes new.names names pends h.are;
   appended = rw statements at h.appended;
   refused = is ∙ ap (nat_lt 0) (h.refused ∙ omega (arith, refused)) ∙ count_refused-some h.outcomes;
 }
 
 -- a new session stopped
-pub prefix_of_new : (s : Session) (bytes : List ℕ) (t t' : Option (List ℕ)) → s.names ≡ [] → s.pending ≡ [] → s.statements ≡ 0 → StopsWhole s bytes t t' → WritesPrefix bytes t t'
-prefix_of_new s bytes t t' names pending statements h = record {
+pub prefix_of_new : (s : Session) (bytes : List ℕ) (t t' : Option (List ℕ)) → s.names ≡ [] → Pends [] s → s.statements ≡ 0 → StopsWhole s bytes t t' → WritesPrefix bytes t t'
+prefix_of_new s bytes t t' names pends statements h = record {
   written = h.written;
   appended = h.appended;
-  prefix = λ os left script. rw statements at (h.prefix os left (rw (names, pending) script));
+  prefix = λ os left script. rw statements at (h.prefix os left (script_of_new s bytes os left names pends script));
 }
 
 -- a new session over a sink that is steady with room
-pub never_of_new : (s : Session) (bytes : List ℕ) (room : Option ℕ) (fault : SessionFault) → s.names ≡ [] → s.pending ≡ [] → s.statements ≡ 0
-    → ((n : ℕ) (os : List Outcome) (left : Names) → room ≡ Some n → Script s bytes os left → length (lines s.statements os) ≤ n → IsErrOf {T = Unit {0}} (Err fault) Write → ⊥)
-    → HasRoom room bytes → fault ≡ Write → ⊥
-never_of_new s bytes room fault names pending statements h has same =
-    h has.bytes_left has.outcomes has.names has.steady (rw (names, pending) has.are) (rw statements has.enough) (ap Err same)
+pub never_of_new : (s : Session) (bytes : List ℕ) (room : Option ℕ) (fault : SessionFault) → s.names ≡ [] → Pends [] s → s.statements ≡ 0
+    → WholeIfSteady s room bytes (Err fault) → HasRoom room bytes → fault ≡ Write → ⊥
+never_of_new s bytes room fault names pends statements h has same =
+    h.never has.bytes_left has.outcomes has.names has.steady (script_of_new s bytes has.outcomes has.names names pends has.are) (rw statements has.enough) (ap Err same)
 
 pub not_both : (s : Status) → s ≡ Memory → s ≡ WriteFault → ⊥
 not_both s a b = let e : Memory ≡ WriteFault = sym a ∙ b in cc

@@ -3,11 +3,10 @@ use Rattle.std.proofs.Common.{◌≡◌, ◌⊎◌, inl, inr, ℕ, ◌+◌, ◌-
 use Rattle.std.proofs.lemmas.Bool.{eqb-true}
 use Rattle.std.proofs.lemmas.List.{nil_from_length}
 use Rattle.std.proofs.lemmas.List.Sums.{sum_by-cons}
-use Rattle.std.specs.Io.KnownBytes.{Appends}
-use Rattle.std.proofs.KnownBytes.{Appends-nil, Appends-trans}
+use Rattle.std.specs.Io.KnownBytes.{Appends, Keeps}
+use Rattle.std.proofs.KnownBytes.{Appends-nil, Appends-trans, Appends-kept}
 use Rattle.hopf_io.specs.Prefixes.{AppendsPrefix}
 use Rattle.hopf_io.specs.Steady.{SendsSteadily}
-use Rattle.hopf_io.specs.declared.source.Failed.{Failed}
 use Rattle.session_tokens.specs.Tokens.{is_blank}
 use Rattle.hopf.specs.declared.session.Session.{Session}
 use Rattle.hopf.specs.declared.session.SessionFault.{SessionFault}
@@ -16,9 +15,33 @@ use Rattle.hopf.specs.declared.statement.Outcome.TheVariants.{Refused}
 use Rattle.session_evaluation.specs.Names.{Names}
 use Rattle.hopf.specs.Outcomes.{IsOutcome, line_of, is_printed, is_refusal}
 use Rattle.hopf.specs.Transcript.{is_end, IsScript, lines, count_printed, count_refused, unfinished, unfinished_refusal}
-use Rattle.hopf.specs.Sessions.{Script, Same, Continues, Advances, Leaves, Stops, WritesIfSteady, Ends, EndStops, EndIfSteady, Finishes, Runs, StopsWhole, last_of}
+use Rattle.hopf.specs.Sessions.{Pends, Script, PendingLaw, Same, Continues, Advances, Leaves, Stops, WritesIfSteady, Finishes, Runs, StopsWhole, WholeIfSteady}
+use Rattle.hopf.specs.SessionSteps.{Ends, EndStops, EndIfSteady, last_of}
 use Rattle.hopf.proofs.OneOutcome.{outcome_once}
-use Rattle.hopf.proofs.Statements.{script_end, from_script_end, script_blank, from_script_blank, script_last, from_script_last}
+use Rattle.hopf.proofs.Statements.{trimmed_text, trimmed_script, script_trimmed, script_end, from_script_end, script_blank, from_script_blank, script_last, from_script_last}
+
+-- what the session keeps is pending
+pub pends_kept : (s : Session) → Pends s.pending s
+pends_kept s = (s.text.no_end, sym (trimmed_text s.pending s.text.no_blank))
+
+-- scripts of pending bytes are those of what the session keeps
+pub at_kept : (s : Session) (more : List ℕ) (os : List Outcome) (left : Names) → Script s more os left → IsScript s.names (s.pending ++ more) os left
+at_kept s more os left (text, (no_end, kept), script) =
+    subst (λ (l : List ℕ). IsScript s.names (l ++ more) os left) (sym kept) (trimmed_script s.names text more os left no_end script)
+
+pub from_kept : (s : Session) (more : List ℕ) (os : List Outcome) (left : Names) → IsScript s.names (s.pending ++ more) os left → Script s more os left
+from_kept s more os left script = (s.pending, pends_kept s, script)
+
+-- all pending bytes have the same scripts
+pub pending_same : (s : Session) → PendingLaw s
+pending_same s = record {
+  text = s.pending;
+  pends = pends_kept s;
+  same = λ other more os left (no_end, kept). (
+    (λ script. script_trimmed s.names other more os left no_end (subst (λ (l : List ℕ). IsScript s.names (l ++ more) os left) kept script)),
+    (λ script. subst (λ (l : List ℕ). IsScript s.names (l ++ more) os left) (sym kept) (trimmed_script s.names other more os left no_end script)),
+  );
+}
 
 same_then : (a b c : Session) (w v : List ℕ) (xs ys zs : List Outcome) → Same a b w xs ys → Same b c v ys zs → Same a c (w ++ v) xs zs
 same_then a b c w v xs ys zs h k = record {
@@ -54,9 +77,11 @@ pub continues_text : (old new : Session) (x y : List ℕ) → new.names ≡ old.
     → old.pending ++ x ≡ new.pending ++ y → Continues old new x y []
 continues_text old new x y names statements printed refused same = record {
   forth = λ rest left script.
-      (rest, subst (λ (n : Names). IsScript n (old.pending ++ x) rest left) names (subst (λ (l : List ℕ). IsScript new.names l rest left) (sym same) script), same_counts old new rest statements printed refused);
+      let here = subst (λ (l : List ℕ). IsScript new.names l rest left) (sym same) (at_kept new y rest left script) in
+      (rest, from_kept old x rest left (subst (λ (n : Names). IsScript n (old.pending ++ x) rest left) names here), same_counts old new rest statements printed refused);
   back = λ all left script.
-      (all, subst (λ (n : Names). IsScript n (new.pending ++ y) all left) (sym names) (subst (λ (l : List ℕ). IsScript old.names l all left) same script), same_counts old new all statements printed refused);
+      let here = subst (λ (l : List ℕ). IsScript old.names l all left) same (at_kept old x all left script) in
+      (all, from_kept new y all left (subst (λ (n : Names). IsScript n (new.pending ++ y) all left) (sym names) here), same_counts old new all statements printed refused);
 }
 
 pub advances_nothing : (s : Session) (taken : Option (List ℕ)) (room : Option ℕ) → Advances s s taken taken room room []
@@ -100,7 +125,7 @@ leaves_none s piece names same = record {
   behind = piece;
   outcomes = unfinished s.pending;
   parts = refl;
-  are = rw (append-nil, same) (script_last s.names s.pending s.text);
+  are = from_kept s [] (unfinished s.pending) names (rw (append-nil, same) (script_last s.names s.pending s.text));
 }
 
 -- a call that stopped at once
@@ -173,17 +198,17 @@ advances_end old new t t' m m' h = record {
   appended = h.appended;
   continues = λ r. record {
     forth = λ rest left script.
-        let script' : IsScript new.names r rest left = rw h.pending at script in (
+        let script' : IsScript new.names r rest left = rw h.pending at (at_kept new r rest left script) in (
           h.outcome ∷ rest,
-          script_end old.names old.pending r h.outcome new.names rest left old.text h.is script',
+          from_kept old (59 ∷ r) (h.outcome ∷ rest) left (script_end old.names old.pending r h.outcome new.names rest left old.text h.is script'),
           same_end old new t t' m m' h h.outcome (h.outcome ∷ rest) rest refl refl,
         );
     back = λ all left script.
-        let (o, next, rest, parts, is, script') = from_script_end old.names old.pending r all left old.text script in
+        let (o, next, rest, parts, is, script') = from_script_end old.names old.pending r all left old.text (at_kept old (59 ∷ r) all left script) in
         let same = outcome_once old.names old.pending o h.outcome next new.names h.values is h.is in
         let script'' : IsScript new.names r rest left = subst (λ (n : Names). IsScript n r rest left) same.1 script' in (
           rest,
-          rw h.pending script'',
+          from_kept new r rest left (rw h.pending script''),
           same_end old new t t' m m' h o all rest parts same.0,
         );
   };
@@ -198,7 +223,7 @@ leaves_end old new (inr (outcome, is)) = record {
   behind = [];
   outcomes = outcome ∷ [];
   parts = refl;
-  are = script_end old.names old.pending [] outcome new.names [] new.names old.text is (refl, refl);
+  are = from_kept old (59 ∷ []) (outcome ∷ []) new.names (script_end old.names old.pending [] outcome new.names [] new.names old.text is (refl, refl));
 }
 
 pub stops_end : (old new : Session) (t t' : Option (List ℕ)) → EndStops old new t t' → Stops old new t t' (59 ∷ [])
@@ -206,7 +231,7 @@ stops_end old new t t' h = record {
   written = h.written;
   appended = h.appended;
   prefix = λ r all left script.
-      let (o, next, rest, parts, is, script') = from_script_end old.names old.pending r all left old.text script in
+      let (o, next, rest, parts, is, script') = from_script_end old.names old.pending r all left old.text (at_kept old (59 ∷ r) all left script) in
       let (more, whole) = h.prefix o next is in
       let behind = lines (old.statements + 1) rest in
       (more ++ behind, ap (lines old.statements) parts ∙ ap (λ l. l ++ behind) whole ∙ append_assoc h.written more behind);
@@ -217,7 +242,7 @@ stops_end old new t t' h = record {
 pub steady_end : (old : Session) (m : Option ℕ) (result : Result Unit SessionFault) → EndIfSteady old m result → WritesIfSteady old m (59 ∷ []) result
 steady_end old m result h = record {
   never = λ n r all left room script fits.
-      let (o, next, rest, parts, is, script') = from_script_end old.names old.pending r all left old.text script in
+      let (o, next, rest, parts, is, script') = from_script_end old.names old.pending r all left old.text (at_kept old (59 ∷ r) all left script) in
       let line = line_of (old.statements + 1) o in
       let sizes : length (lines old.statements all) ≡ length line + length (lines (old.statements + 1) rest) =
       ap (λ os. length (lines old.statements os)) parts ∙ length-append line (lines (old.statements + 1) rest) in
@@ -241,11 +266,11 @@ advances_blank s t m c empty e blank = record {
   appended = Appends-nil t;
   continues = λ r. record {
     forth = λ rest left script.
-        let script' : IsScript s.names r rest left = rw empty at script in
-        (rest, rw empty (script_blank s.names c r rest left e blank script'), same_counts s s rest refl refl refl);
+        let script' : IsScript s.names r rest left = rw empty at (at_kept s r rest left script) in
+        (rest, from_kept s (c ∷ r) rest left (rw empty (script_blank s.names c r rest left e blank script')), same_counts s s rest refl refl refl);
     back = λ all left script.
-        let script' : IsScript s.names (c ∷ r) all left = rw empty at script in
-        (all, rw empty (from_script_blank s.names c r all left e blank script'), same_counts s s all refl refl refl);
+        let script' : IsScript s.names (c ∷ r) all left = rw empty at (at_kept s (c ∷ r) all left script) in
+        (all, from_kept s r all left (rw empty (from_script_blank s.names c r all left e blank script')), same_counts s s all refl refl refl);
   };
   used = λ n e' fits. e' ∙ ap Some (omega arith);
 }
@@ -256,10 +281,10 @@ around xs i h = ap (λ l. take i xs ++ l) (sym (rw add-one (drop-cons xs i 0 h))
 
 -- The end of the input runs what is pending.
 pub script_rest : (s : Session) → Script s [] (last_of s) s.names
-script_rest s = rw append-nil (script_last s.names s.pending s.text)
+script_rest s = from_kept s [] (last_of s) s.names (rw append-nil (script_last s.names s.pending s.text))
 
 pub from_script_rest : (s : Session) (os : List Outcome) (left : Names) → Script s [] os left → (os ≡ last_of s) × (left ≡ s.names)
-from_script_rest s os left script = from_script_last s.names s.pending os left s.text (rw append-nil at script)
+from_script_rest s os left script = from_script_last s.names s.pending os left s.text (rw append-nil at (at_kept s [] os left script))
 
 pub no_last : (s : Session) → (length s.pending == 0) ≡ true → last_of s ≡ []
 no_last s h = ap unfinished (nil_from_length s.pending (eqb-true _ _ h))
@@ -277,8 +302,9 @@ last_line s h = ap (lines s.statements) (last_some s h) ∙ append-nil (line_of 
 -- nothing was pending
 pub finishes_none : (s : Session) (t : Option (List ℕ)) → (length s.pending == 0) ≡ true → Finishes s s t t
 finishes_none s t h = record {
+  outcomes = last_of s;
+  are = script_rest s;
   appended = rw (no_last s h) (Appends-nil t);
-  names = script_rest s;
   statements = rw (no_last s h) (omega arith);
   printed = rw (no_last s h) (omega arith);
   refused = rw (no_last s h) (omega arith);
@@ -288,15 +314,55 @@ finishes_none s t h = record {
 pub finishes_some : (old new : Session) (t t' : Option (List ℕ)) → (length old.pending == 0) ≡ false → Appends t t' (lines old.statements (last_of old))
     → new.names ≡ old.names → new.statements ≡ old.statements + 1 → new.printed ≡ old.printed → new.refused ≡ old.refused + 1 → Finishes old new t t'
 finishes_some old new t t' h appended names statements printed refused = record {
+  outcomes = last_of old;
+  are = subst (λ (n : Names). Script old [] (last_of old) n) (sym names) (script_rest old);
   appended = appended;
-  names = subst (λ (n : Names). Script old [] (last_of old) n) (sym names) (script_rest old);
   statements = statements ∙ ap (λ (os : List Outcome). old.statements + length os) (sym (last_some old h));
   printed = rw (last_some old h) (omega (arith, printed));
   refused = refused ∙ ap (λ (os : List Outcome). old.refused + count_refused os) (sym (last_some old h));
 }
 
+-- the end of the input has one script
+last_once : (s : Session) (os all : List Outcome) (left left' : Names) → Script s [] os left → Script s [] all left' → all ≡ os
+last_once s os all left left' script script' = (from_script_rest s all left' script').0 ∙ sym (from_script_rest s os left script).0
+
+-- a prefix of its lines was written
+pub stops_last : (s : Session) (t t' : Option (List ℕ)) → AppendsPrefix t t' (lines s.statements (last_of s)) → StopsWhole s [] t t'
+stops_last s t t' (front, appended, (more, whole)) = record {
+  written = front;
+  appended = appended;
+  prefix = λ all left script. (more, ap (lines s.statements) (from_script_rest s all left script).0 ∙ whole);
+}
+
+-- nothing was written
+pub stops_unwritten : (s : Session) (t : Option (List ℕ)) (bytes : List ℕ) → StopsWhole s bytes t t
+stops_unwritten s t bytes = record { written = []; appended = Appends-nil t; prefix = λ all left script. (lines s.statements all, refl) }
+
+-- its lines were written, and then the flush failed
+pub stops_unflushed : (s new : Session) (t t' t'' : Option (List ℕ)) → Finishes s new t t' → Keeps t' t'' → StopsWhole s [] t t''
+stops_unflushed s new t t' t'' h keeps = record {
+  written = lines s.statements h.outcomes;
+  appended = Appends-kept _ _ _ _ h.appended keeps;
+  prefix = λ all left script.
+      ([], ap (lines s.statements) (last_once s h.outcomes all new.names left h.are script) ∙ sym (append-nil (lines s.statements h.outcomes)));
+}
+
+pub finishes_flushed : (s new : Session) (t t' t'' : Option (List ℕ)) → Finishes s new t t' → Keeps t' t'' → Finishes s new t t''
+finishes_flushed s new t t' t'' h keeps = record {
+  outcomes = h.outcomes;
+  are = h.are;
+  appended = Appends-kept _ _ _ _ h.appended keeps;
+  statements = h.statements;
+  printed = h.printed;
+  refused = h.refused;
+}
+
+-- room for the transcript is room for the last line
+pub last_fits : (s : Session) (n : ℕ) (all : List Outcome) (left : Names) → Script s [] all left → length (lines s.statements all) ≤ n → length (lines s.statements (last_of s)) ≤ n
+last_fits s n all left script fits = subst (λ (os : List Outcome). length (lines s.statements os) ≤ n) (from_script_rest s all left script).0 fits
+
 -- a send that fails does not meet a steady sink with room
-pub never_fails : (m m' : Option ℕ) (sent whole : List ℕ) (x : Failed) → sent ≡ whole → SendsSteadily m m' (length sent) (Err x)
+pub never_fails : (m m' : Option ℕ) (sent whole : List ℕ) (x : SessionFault) → sent ≡ whole → SendsSteadily m m' (length sent) (Err x)
     → (n : ℕ) → m ≡ Some n → length whole ≤ n → ⊥
 never_fails m m' sent whole x same sends n room fits =
     let enough : length sent ≤ n = rw same fits in
@@ -306,7 +372,7 @@ never_fails m m' sent whole x same sends n room fits =
 -- A whole input was fed, and then the end.
 pub runs_whole : (a b c : Session) (t t' t'' : Option (List ℕ)) (m m' : Option ℕ) (bytes : List ℕ) → Advances a b t t' m m' bytes → Finishes b c t' t'' → Runs a c bytes t t''
 runs_whole a b c t t' t'' m m' bytes first last =
-    let (all, script, same) = (first.continues []).forth (last_of b) c.names last.names in
+    let (all, script, same) = (first.continues []).forth last.outcomes c.names last.are in
     record {
       outcomes = all;
       are = subst (λ (l : List ℕ). Script a l all c.names) (append-nil bytes) script;
@@ -318,28 +384,31 @@ pub stops_whole : (s new : Session) (t t' : Option (List ℕ)) (bytes : List ℕ
 stops_whole s new t t' bytes h = record {
   written = h.written;
   appended = h.appended;
-  prefix = λ all left script. h.prefix [] all left (rw append-nil script);
+  prefix = λ all left script. h.prefix [] all left (subst (λ (l : List ℕ). Script s l all left) (sym (append-nil bytes)) script);
 }
 
-pub stops_at_end : (a b : Session) (t t' t'' : Option (List ℕ)) (m m' : Option ℕ) (bytes : List ℕ)
-    → Advances a b t t' m m' bytes → AppendsPrefix t' t'' (lines b.statements (last_of b)) → StopsWhole a bytes t t''
-stops_at_end a b t t' t'' m m' bytes first (front, appended, (more, whole)) = record {
-  written = first.written ++ front;
-  appended = Appends-trans _ _ _ _ _ first.appended appended;
+pub steady_whole : (s : Session) (m : Option ℕ) (bytes : List ℕ) (result : Result Unit SessionFault) → WritesIfSteady s m bytes result → WholeIfSteady s m bytes result
+steady_whole s m bytes result h = record {
+  never = λ n all left room script fits. h.never n [] all left room (subst (λ (l : List ℕ). Script s l all left) (sym (append-nil bytes)) script) fits;
+}
+
+pub stops_at_end : (a b : Session) (t t' t'' : Option (List ℕ)) (m m' : Option ℕ) (bytes : List ℕ) → Advances a b t t' m m' bytes → StopsWhole b [] t' t'' → StopsWhole a bytes t t''
+stops_at_end a b t t' t'' m m' bytes first last = record {
+  written = first.written ++ last.written;
+  appended = Appends-trans _ _ _ _ _ first.appended last.appended;
   prefix = λ all left script.
-      let (rest, script', same) = (first.continues []).back all left (rw append-nil script) in (
-        more,
-        same.lines ∙ ap (λ os. first.written ++ lines b.statements os) (from_script_rest b rest left script').0 ∙ ap (λ l. first.written ++ l) whole
-            ∙ sym (append_assoc first.written front more),
-      );
+      let (rest, script', same) = (first.continues []).back all left (subst (λ (l : List ℕ). Script a l all left) (sym (append-nil bytes)) script) in
+      let (more, whole) = last.prefix rest left script' in
+      (more, same.lines ∙ ap (λ l. first.written ++ l) whole ∙ sym (append_assoc first.written last.written more));
 }
 
 -- the room that is left after a whole input is enough for its end
-pub room_at_end : (a b : Session) (t t' : Option (List ℕ)) (m m' : Option ℕ) (bytes : List ℕ) (all : List Outcome) (left : Names) → Advances a b t t' m m' bytes
-    → Script a bytes all left → (n : ℕ) → m ≡ Some n → length (lines a.statements all) ≤ n → (k : ℕ) × (m' ≡ Some k) × (length (lines b.statements (last_of b)) ≤ k)
-room_at_end a b t t' m m' bytes all left first script n room fits =
-    let (rest, script', same) = (first.continues []).back all left (rw append-nil script) in
-    let sizes : length (lines a.statements all) ≡ length first.written + length (lines b.statements (last_of b)) =
-    ap length (same.lines ∙ ap (λ os. first.written ++ lines b.statements os) (from_script_rest b rest left script').0)
-    ∙ length-append first.written (lines b.statements (last_of b)) in
-    (n - length first.written, first.used n room (omega arith), omega arith)
+pub steady_at_end : (a b : Session) (t t' : Option (List ℕ)) (m m' : Option ℕ) (bytes : List ℕ) (result : Result Unit SessionFault) → Advances a b t t' m m' bytes
+    → WholeIfSteady b m' [] result → WholeIfSteady a m bytes result
+steady_at_end a b t t' m m' bytes result first last = record {
+  never = λ n all left room script fits.
+      let (rest, script', same) = (first.continues []).back all left (subst (λ (l : List ℕ). Script a l all left) (sym (append-nil bytes)) script) in
+      let sizes : length (lines a.statements all) ≡ length first.written + length (lines b.statements rest) =
+      ap length same.lines ∙ length-append first.written (lines b.statements rest) in
+      last.never (n - length first.written) rest left (first.used n room (omega arith)) script' (omega arith);
+}

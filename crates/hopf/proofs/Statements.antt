@@ -1,6 +1,7 @@
 -- How the outcomes of the bytes follow from their first byte.
-use Rattle.std.proofs.Common.{◌≡◌, ℕ, List, [], ◌∷◌, ◌++◌, true, false, cond, refl}
-use Rattle.std.specs.List.{slice_split, onto_first}
+use Rattle.std.proofs.Common.{◌≡◌, ℕ, List, [], ◌∷◌, ◌++◌, Bool, true, false, cond, refl, sym, subst}
+use Rattle.std.specs.List.{slice_split, onto_first, All}
+use Rattle.std.proofs.lemmas.List.Elements.{All-head, All-tail}
 use Rattle.std.proofs.lemmas.List.Splits.{slice_split_none, slice_split_at}
 use Rattle.session_tokens.specs.Tokens.{is_blank}
 use Rattle.hopf.specs.declared.statement.Outcome.{Outcome}
@@ -47,6 +48,41 @@ script_blank names c r os left e h k = rw e (onto_blank names c (slice_split is_
 
 pub from_script_blank : (names : Names) (c : ℕ) (r : List ℕ) (os : List Outcome) (left : Names) → is_end c ≡ false → is_blank c ≡ true → IsScript names (c ∷ r) os left → IsScript names r os left
 from_script_blank names c r os left e h k = from_onto_blank names c (slice_split is_end r) os left h (rw e at k)
+
+trim_blank : (c : ℕ) (text : List ℕ) → is_blank c ≡ true → trimmed (c ∷ text) ≡ trimmed text
+trim_blank c text h = rw h refl
+
+trim_text : (c : ℕ) (text : List ℕ) → is_blank c ≡ false → trimmed (c ∷ text) ≡ c ∷ text
+trim_text c text h = rw h refl
+
+-- blanks at the beginning of bytes without a `;` count for nothing
+trimmed_if : (names : Names) (c : ℕ) (text more : List ℕ) (os : List Outcome) (left : Names) (blank : Bool) → is_blank c ≡ blank → is_end c ≡ false
+    → (IsScript names (text ++ more) os left → IsScript names (trimmed text ++ more) os left) → IsScript names (c ∷ (text ++ more)) os left → IsScript names (trimmed (c ∷ text) ++ more) os left
+trimmed_if names c text more os left true is e step script =
+    subst (λ (l : List ℕ). IsScript names (l ++ more) os left) (sym (trim_blank c text is)) (step (from_script_blank names c (text ++ more) os left e is script))
+trimmed_if names c text more os left false is e step script = subst (λ (l : List ℕ). IsScript names (l ++ more) os left) (sym (trim_text c text is)) script
+
+pub trimmed_script : (names : Names) (text more : List ℕ) (os : List Outcome) (left : Names) → All (λ c. is_end c ≡ false) text → IsScript names (text ++ more) os left
+    → IsScript names (trimmed text ++ more) os left
+trimmed_script names [] more os left h script = script
+trimmed_script names (c ∷ text) more os left h script =
+    trimmed_if names c text more os left (is_blank c) refl (All-head (λ x. is_end x ≡ false) c text h)
+    (λ k. trimmed_script names text more os left (All-tail (λ x. is_end x ≡ false) c text h) k)
+    script
+
+untrimmed_if : (names : Names) (c : ℕ) (text more : List ℕ) (os : List Outcome) (left : Names) (blank : Bool) → is_blank c ≡ blank → is_end c ≡ false
+    → (IsScript names (trimmed text ++ more) os left → IsScript names (text ++ more) os left) → IsScript names (trimmed (c ∷ text) ++ more) os left → IsScript names (c ∷ (text ++ more)) os left
+untrimmed_if names c text more os left true is e step script =
+    script_blank names c (text ++ more) os left e is (step (subst (λ (l : List ℕ). IsScript names (l ++ more) os left) (trim_blank c text is) script))
+untrimmed_if names c text more os left false is e step script = subst (λ (l : List ℕ). IsScript names (l ++ more) os left) (trim_text c text is) script
+
+pub script_trimmed : (names : Names) (text more : List ℕ) (os : List Outcome) (left : Names) → All (λ c. is_end c ≡ false) text → IsScript names (trimmed text ++ more) os left
+    → IsScript names (text ++ more) os left
+script_trimmed names [] more os left h script = script
+script_trimmed names (c ∷ text) more os left h script =
+    untrimmed_if names c text more os left (is_blank c) refl (All-head (λ x. is_end x ≡ false) c text h)
+    (λ k. script_trimmed names text more os left (All-tail (λ x. is_end x ≡ false) c text h) k)
+    script
 
 -- the input ends in this text
 pub script_last : (names : Names) (text : List ℕ) → IsText text → IsScript names text (unfinished text) names

@@ -2,6 +2,7 @@ pub mod Laws
 pub mod Outcomes
 pub mod Refusals
 pub mod Runs
+pub mod SessionSteps
 pub mod Sessions
 pub mod Statuses
 pub mod Transcript

@@ -1,5 +1,5 @@
 -- What a session does to its state and to its output.
-use Rattle.std.specs.Prelude.{◌≡◌, ◌≢◌, ℕ, ◌+◌, ◌-◌, [], ◌≤◌, ◌⊎◌, List, ◌++◌, length, if◌then◌else◌, Option, Some, Result, IsErrOf, OnOk}
+use Rattle.std.specs.Prelude.{◌≡◌, ◌≢◌, ◌↔◌, ℕ, ◌+◌, ◌-◌, [], ◌≤◌, List, ◌++◌, All, false, length, Option, Some, Result, IsErrOf}
 use Rattle.std.specs.Io.KnownBytes.{Appends}
 use Rattle.hopf_io.specs.Prefixes.{IsPrefix}
 use Rattle.hopf.specs.declared.statement.Outcome.{Outcome}
@@ -7,12 +7,28 @@ use Rattle.hopf.specs.declared.statement.Outcome.TheVariants.{Refused}
 use Rattle.hopf.specs.declared.session.Session.{Session}
 use Rattle.hopf.specs.declared.session.SessionFault.{SessionFault}
 use Rattle.hopf.specs.declared.session.SessionFault.TheVariants.{Write}
-use Rattle.session_evaluation.specs.Names.{Names, AreValues}
-use Rattle.hopf.specs.Outcomes.{IsOutcome, line_of, is_printed, is_refusal}
-use Rattle.hopf.specs.Transcript.{IsScript, lines, count_printed, count_refused, unfinished}
+use Rattle.session_evaluation.specs.Names.{Names}
+use Rattle.hopf.specs.Transcript.{is_end, trimmed, IsScript, lines, count_printed, count_refused}
 use Rattle.basis_routes.specs.declared.refusal.Refusal.TheVariants as value
 use Rattle.session_reading.specs.declared.fault.GrammarFault.TheVariants as fault
 use Rattle.hopf.specs.declared.refusal.StatementRefusal.TheVariants as refusal
+
+-- What is pending.
+
+-- the bytes may be those since the last `;`: none of them is `;`, and the session keeps what they are without the blanks in front
+abbrev pub Pends : List ℕ → Session → Type 0
+Pends bytes session = All (λ c. is_end c ≡ false) bytes × (session.pending ≡ trimmed bytes)
+
+-- the outcomes of the statements of pending bytes followed by these, and the names that they leave
+abbrev pub Script : Session → List ℕ → List Outcome → Names → Type 0
+Script session bytes os left = (text : List ℕ) × Pends text session × IsScript session.names (text ++ bytes) os left
+
+-- some bytes are pending, and no matter which, they have the same scripts
+pub record PendingLaw (session : Session) : Type 0 where
+  pub text : List ℕ
+  pub pends : Pends text session
+  pub same : (other more : List ℕ) (os : List Outcome) (left : Names) → Pends other session
+      → IsScript session.names (text ++ more) os left ↔ IsScript session.names (other ++ more) os left
 
 -- One statement.
 
@@ -27,23 +43,10 @@ pub record KeepsAllButNames (old new : Session) : Type 0 where
   pub statements : new.statements ≡ old.statements
   pub printed : new.printed ≡ old.printed
   pub refused : new.refused ≡ old.refused
-  pub pending : new.pending ≡ old.pending
-  pub ended : new.ended ≡ old.ended
-
--- a statement with this outcome was counted, and nothing else changed
-pub record Counted (old new : Session) (outcome : Outcome) : Type 0 where
-  pub names : new.names ≡ old.names
-  pub statements : new.statements ≡ old.statements + 1
-  pub printed : new.printed ≡ old.printed + (if is_printed outcome then 1 else 0)
-  pub refused : new.refused ≡ old.refused + (if is_refusal outcome then 1 else 0)
-  pub pending : new.pending ≡ old.pending
+  pub pending : (bytes : List ℕ) → Pends bytes old ↔ Pends bytes new
   pub ended : new.ended ≡ old.ended
 
 -- Pieces of the input.
-
--- the outcomes of the statements of the pending text followed by the bytes, and the names that they leave
-abbrev pub Script : Session → List ℕ → List Outcome → Names → Type 0
-Script session bytes os left = IsScript session.names (session.pending ++ bytes) os left
 
 -- the lines of all are what was written and the lines of rest, and the counts are those of rest more
 pub record Same (old new : Session) (written : List ℕ) (all rest : List Outcome) : Type 0 where
@@ -84,49 +87,16 @@ pub record WritesIfSteady (old : Session) (room : Option ℕ) (piece : List ℕ)
   pub never : (n : ℕ) (r : List ℕ) (all : List Outcome) (left : Names) → room ≡ Some n → Script old (piece ++ r) all left
       → length (lines old.statements all) ≤ n → IsErrOf result Write → ⊥
 
--- The end of a statement.
-
--- the pending text was run
-pub record Ends (old new : Session) (taken taken' : Option (List ℕ)) (room room' : Option ℕ) : Type 0 where
-  pub values : AreValues old.names
-  pub outcome : Outcome
-  pub is : IsOutcome old.names old.pending outcome new.names
-  pub statements : new.statements ≡ old.statements + 1
-  pub printed : new.printed ≡ old.printed + (if is_printed outcome then 1 else 0)
-  pub refused : new.refused ≡ old.refused + (if is_refusal outcome then 1 else 0)
-  pub pending : new.pending ≡ []
-  pub appended : Appends taken taken' (line_of (old.statements + 1) outcome)
-  pub used : (n : ℕ) → room ≡ Some n → length (line_of (old.statements + 1) outcome) ≤ n → room' ≡ Some (n - length (line_of (old.statements + 1) outcome))
-
--- it was not wholly run: a prefix of its line was written, and it was run on the names or not
-pub record EndStops (old new : Session) (taken taken' : Option (List ℕ)) : Type 0 where
-  pub written : List ℕ
-  pub appended : Appends taken taken' written
-  pub prefix : (outcome : Outcome) (left : Names) → IsOutcome old.names old.pending outcome left → IsPrefix written (line_of (old.statements + 1) outcome)
-  pub names : (new.names ≡ old.names) ⊎ ((outcome : Outcome) × IsOutcome old.names old.pending outcome new.names)
-
--- on a steady sink that has room for its line, no write fails
-abbrev pub EndIfSteady : Session → Option ℕ → Result Unit SessionFault → Type 0
-EndIfSteady old room result = (n : ℕ) (outcome : Outcome) (left : Names) → room ≡ Some n → IsOutcome old.names old.pending outcome left
-    → length (line_of (old.statements + 1) outcome) ≤ n → IsErrOf result Write → ⊥
-
 -- The end of the input.
 
--- the outcomes of what is pending where the input ends
-abbrev pub last_of : Session → List Outcome
-last_of s = unfinished s.pending
-
--- the pending text was run as the last one: it leaves the names
+-- what was pending was run as the last statement, if it was one
 pub record Finishes (old new : Session) (taken taken' : Option (List ℕ)) : Type 0 where
-  pub appended : Appends taken taken' (lines old.statements (last_of old))
-  pub names : Script old [] (last_of old) new.names
-  pub statements : new.statements ≡ old.statements + length (last_of old)
-  pub printed : new.printed ≡ old.printed + count_printed (last_of old)
-  pub refused : new.refused ≡ old.refused + count_refused (last_of old)
-
--- on a steady sink that has room for this many bytes no write fails, and they use the room
-abbrev pub WritesLast : Option ℕ → Option ℕ → ℕ → Result Unit SessionFault → Type 0
-WritesLast room room' count result = (n : ℕ) → room ≡ Some n → count ≤ n → (IsErrOf result Write → ⊥) × OnOk result (room' ≡ Some (n - count))
+  pub outcomes : List Outcome
+  pub are : Script old [] outcomes new.names
+  pub appended : Appends taken taken' (lines old.statements outcomes)
+  pub statements : new.statements ≡ old.statements + length outcomes
+  pub printed : new.printed ≡ old.printed + count_printed outcomes
+  pub refused : new.refused ≡ old.refused + count_refused outcomes
 
 -- A whole input.
 
@@ -142,3 +112,7 @@ pub record StopsWhole (old : Session) (bytes : List ℕ) (taken taken' : Option 
   pub written : List ℕ
   pub appended : Appends taken taken' written
   pub prefix : (all : List Outcome) (left : Names) → Script old bytes all left → IsPrefix written (lines old.statements all)
+
+-- on a steady sink that has room for the transcript no write fails
+pub record WholeIfSteady (old : Session) (room : Option ℕ) (bytes : List ℕ) (result : Result Unit SessionFault) : Type 0 where
+  pub never : (n : ℕ) (all : List Outcome) (left : Names) → room ≡ Some n → Script old bytes all left → length (lines old.statements all) ≤ n → IsErrOf result Write → ⊥

@@ -92,9 +92,10 @@ pub fn run<I: Source, O: Sink, E: Sink>(
         → (Rose (I.faults input.old) (I.faults input.new) → ⊥) → (Rose (O.faults out.old) (O.faults out.new) → ⊥)
         → I.given input.new ≤ I.given input.old + INPUT_LIMIT → IsDone result ⊎ (result ≡ Status.Memory) }
 
-    // The error sink has the line of the status.
+    // The error sink has the line of the status, and is flushed.
     ensures line_prefix { AppendsPrefix (E.taken err.old) (E.taken err.new) (status_line result) }
     ensures line_whole { (Rose (E.faults err.old) (E.faults err.new) → ⊥) → Appends (E.taken err.old) (E.taken err.new) (status_line result) }
+    ensures line_flushed { (Rose (E.faults err.old) (E.faults err.new) → ⊥) → E.flushed err.new }
     ensures line_steady { (n : ℕ) → E.room err.old ≡ Some n → length (status_line result) ≤ n → Appends (E.taken err.old) (E.taken err.new) (status_line result) }
 {
     let status = if is_command(words) {

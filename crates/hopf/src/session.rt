@@ -1,9 +1,12 @@
 //! A session runs each statement when its `;` comes.
-ghost use Rattle.std.specs.Prelude.{◌≡◌, ◌+◌, ◌-◌, ◌^◌, ◌<◌, ◌≤◌, ◌↔◌, [], ◌∷◌, ℕ, List, Some, true, false, length, option_copied, IfOk, OnOk, OnErr, IsErrOf};
+ghost use Rattle.std.specs.Prelude.{◌≡◌, ◌+◌, ◌-◌, ◌^◌, ◌<◌, ◌≤◌, ◌↔◌, [], ◌∷◌, true, false, length, option_copied, IsOk, IfOk, OnOk, OnErr, IsErrOf};
 ghost use Rattle.session_evaluation.specs.Names.{value_of};
 ghost use Rattle.hopf.specs.Outcomes.{IsOutcome};
 ghost use Rattle.hopf.specs.Transcript.{IsText, lines};
-ghost use Rattle.hopf.specs.declared.statement.Outcome.{Outcome};
+ghost use Rattle.std.specs.Io.KnownBytes.{Appends};
+ghost use Rattle.hopf_io.specs.Faults.{HasCause};
+ghost use Rattle.hopf_io.specs.Prefixes.{AppendsPrefix};
+ghost use Rattle.hopf_io.specs.Steady.{SendsSteadily};
 
 use crate::statement::{Outcome, line_of, outcome_of_text, refusal_of_unfinished};
 use basis_routes::Value;
@@ -61,7 +64,7 @@ pub struct Counts {
 
 /// A session: its names, the counts of its statements, and the text of the statement whose `;` has
 /// not come, without leading blanks. It is ended once a call of `feed` or `finish` answered an error,
-/// or `finish` answered `Ok`.
+/// or `finish` answered `Ok`; until then one more statement can be counted.
 #[derive(Drop)]
 pub struct Session {
     alloc: Global,
@@ -73,13 +76,27 @@ pub struct Session {
     ended: bool,
     ghost text: { IsText pending },
     ghost counts: { printed + refused ≤ statements },
+    ghost bound: { ended ≡ false → statements < 2 ^ 64 - 1 },
+}
+
+// Writes a line, or a prefix of it where the sink fails.
+fn send_line<O: Sink>(out: &mut O, line: &[u8]) -> Result<(), SessionFault>
+    ensures all { OnOk result (Appends (O.taken out.old) (O.taken out.new) line.now) }
+    ensures part { OnErr result (AppendsPrefix (O.taken out.old) (O.taken out.new) line.now) }
+    ensures not_ended { IsErrOf result SessionFault.Ended → ⊥ }
+    ensures cause { HasCause (O.faults out.old) (O.faults out.new) result }
+    ensures steady { SendsSteadily (O.room out.old) (O.room out.new) (length line.now) result }
+{
+    match send_all(out, line) {
+        Ok(()) => Ok(()),
+        Err(Failed) => Err(SessionFault::Write),
+    }
 }
 
 impl Session {
-    ghost use Rattle.hopf.specs.Sessions.{IsTold, KeepsAllButNames, Counted, Advances, Stops, WritesIfSteady, WritesLast, Script, Ends, EndStops, EndIfSteady, Finishes, Runs, StopsWhole, last_of};
-    ghost use Rattle.session_evaluation.specs.Names.{Names};
+    ghost use Rattle.hopf.specs.Sessions.{IsTold, Pends, KeepsAllButNames, Advances, Stops, WritesIfSteady, Finishes, Runs, StopsWhole, WholeIfSteady};
+    ghost use Rattle.hopf.specs.SessionSteps.{Counted, Ends, EndStops, EndIfSteady, WritesLast, last_of};
     ghost use Rattle.hopf_io.specs.Faults.{Rose};
-    ghost use Rattle.hopf_io.specs.Prefixes.{AppendsPrefix};
 
     /// A session that has run nothing and has no names. It takes no memory.
     pub fn new(alloc: Global) -> Session
@@ -87,7 +104,7 @@ impl Session {
         ensures statements { result.statements ≡ 0 }
         ensures printed { result.printed ≡ 0 }
         ensures refused { result.refused ≡ 0 }
-        ensures pending { result.pending ≡ [] }
+        ensures pending { Pends [] result }
         ensures ended { result.ended ≡ false }
     {
         Session {
@@ -115,7 +132,7 @@ impl Session {
 
     // Counts a statement with this outcome.
     fn count_outcome(&mut self, outcome: &Outcome)
-        requires { self.old.statements < 2 ^ 64 - 1 }
+        requires { self.old.statements < 2 ^ 64 - 2 }
         ensures { Counted self.old self.new outcome.now }
     {
         self.statements += 1;
@@ -128,7 +145,7 @@ impl Session {
 
     // Runs the pending text as a statement.
     fn end_statement<O: Sink>(&mut self, out: &mut O) -> Result<(), SessionFault>
-        requires { self.old.statements < 2 ^ 64 - 1 }
+        requires { self.old.statements < 2 ^ 64 - 2 }
         ensures ok { OnOk result (Ends self.old self.new (O.taken out.old) (O.taken out.new) (O.room out.old) (O.room out.new)) }
         ensures err { OnErr result (EndStops self.old self.new (O.taken out.old) (O.taken out.new)) }
         ensures not_ended { IsErrOf result SessionFault.Ended → ⊥ }
@@ -141,13 +158,13 @@ impl Session {
         let text = line_of(self.alloc, self.statements + 1, &outcome)?;
         self.count_outcome(&outcome);
         self.pending = Bytes::new(self.alloc);
-        send_all(out, text.as_slice())?;
+        send_line(out, text.as_slice())?;
         Ok(())
     }
 
     // Takes one byte.
     fn feed_byte<O: Sink>(&mut self, byte: u8, out: &mut O) -> Result<(), SessionFault>
-        requires { self.old.statements < 2 ^ 64 - 1 }
+        requires { self.old.statements < 2 ^ 64 - 2 }
         ensures ok { OnOk result (Advances self.old self.new (O.taken out.old) (O.taken out.new) (O.room out.old) (O.room out.new) (byte ∷ [])) }
         ensures statements { OnOk result (self.new.statements ≤ self.old.statements + 1) }
         ensures err { OnErr result (Stops self.old self.new (O.taken out.old) (O.taken out.new) (byte ∷ [])) }
@@ -179,6 +196,7 @@ impl Session {
         ensures later { O.faults out.old ≤ O.faults out.new }
         ensures cause { IsErrOf result SessionFault.Write → Rose (O.faults out.old) (O.faults out.new) }
         ensures steady { WritesIfSteady self.old (O.room out.old) piece.now result }
+        ensures nothing { piece.now ≡ [] → IsOk result }
     {
         for i in 0..piece.len() {
             self.feed_byte(piece[i], out)?;
@@ -191,12 +209,13 @@ impl Session {
     /// The lines depend on the bytes alone and not on how they are cut into pieces. The cost is that
     /// of the statements. It fails with `Write` where the sink does, with `Memory` where memory runs
     /// out, and with `Ended` where an earlier call ended the session; after each the session is
-    /// ended.
+    /// ended. It needs `count().statements` to be below 2^63, unless the session is ended.
     pub fn feed<O: Sink>(&mut self, piece: &[u8], out: &mut O) -> Result<(), SessionFault>
         requires { self.old.ended ≡ false → self.old.statements < 2 ^ 63 }
         ensures ok { OnOk result (Advances self.old self.new (O.taken out.old) (O.taken out.new) (O.room out.old) (O.room out.new) piece.now) }
         ensures statements { OnOk result (self.new.statements ≤ self.old.statements + length piece.now) }
         ensures goes_on { OnOk result (self.new.ended ≡ false) }
+        ensures nothing { piece.now ≡ [] → self.old.ended ≡ false → IsOk result }
 
         // After an error the output has a prefix of the transcript, and the session is ended.
         ensures err { OnErr result (Stops self.old self.new (O.taken out.old) (O.taken out.new) piece.now) }
@@ -216,18 +235,19 @@ impl Session {
         Ok(())
     }
 
-    // Runs what follows the last `;`, where it holds a byte that is no blank.
+    // Ends the session, and runs what follows the last `;`, where it holds a byte that is no blank.
     fn end_input<O: Sink>(&mut self, out: &mut O) -> Result<(), SessionFault>
         requires { self.old.statements < 2 ^ 64 - 1 }
         ensures ok { OnOk result (Finishes self.old self.new (O.taken out.old) (O.taken out.new)) }
         ensures names { self.new.names ≡ self.old.names }
         ensures err { OnErr result (AppendsPrefix (O.taken out.old) (O.taken out.new) (lines self.old.statements (last_of self.old))) }
         ensures not_ended { IsErrOf result SessionFault.Ended → ⊥ }
-        ensures ended { self.new.ended ≡ self.old.ended }
+        ensures ended { self.new.ended ≡ true }
         ensures later { O.faults out.old ≤ O.faults out.new }
         ensures cause { IsErrOf result SessionFault.Write → Rose (O.faults out.old) (O.faults out.new) }
         ensures steady { WritesLast (O.room out.old) (O.room out.new) (length (lines self.old.statements (last_of self.old))) result }
     {
+        self.ended = true;
         if self.pending.as_slice().is_empty() {
             return Ok(());
         }
@@ -235,31 +255,31 @@ impl Session {
         let line = line_of(self.alloc, self.statements + 1, &outcome)?;
         self.statements += 1;
         self.refused += 1;
-        send_all(out, line.as_slice())?;
+        send_line(out, line.as_slice())?;
         Ok(())
     }
 
     /// Ends the session: what follows the last `;` is a statement where it holds a byte that is no
     /// blank. The sink is flushed after its last line. It fails as `feed` does.
     pub fn finish<O: Sink>(&mut self, out: &mut O) -> Result<(), SessionFault>
-        requires { self.old.ended ≡ false → self.old.statements < 2 ^ 64 - 1 }
         ensures ok { OnOk result (Finishes self.old self.new (O.taken out.old) (O.taken out.new)) }
         ensures flushed { OnOk result (O.flushed out.new) }
 
         // What it leaves of the names is what it found, since the last text is refused.
         ensures names { self.new.names ≡ self.old.names }
-        ensures err { OnErr result (AppendsPrefix (O.taken out.old) (O.taken out.new) (lines self.old.statements (last_of self.old))) }
+
+        // After an error the output has a prefix of the transcript on no more bytes.
+        ensures err { OnErr result (StopsWhole self.old [] (O.taken out.old) (O.taken out.new)) }
         ensures stops { self.new.ended ≡ true }
         ensures ended { IsErrOf result SessionFault.Ended ↔ (self.old.ended ≡ true) }
         ensures ended_out { IsErrOf result SessionFault.Ended → out.new ≡ out.old }
         ensures later { O.faults out.old ≤ O.faults out.new }
         ensures cause { IsErrOf result SessionFault.Write → Rose (O.faults out.old) (O.faults out.new) }
-        ensures steady { (n : ℕ) → O.room out.old ≡ Some n → length (lines self.old.statements (last_of self.old)) ≤ n → IsErrOf result SessionFault.Write → ⊥ }
+        ensures steady { WholeIfSteady self.old (O.room out.old) [] result }
     {
         if self.ended {
             return Err(SessionFault::Ended);
         }
-        self.ended = true;
         self.end_input(out)?;
         out.flush()?;
         Ok(())
@@ -293,7 +313,7 @@ impl Session {
         ensures later { O.faults out.old ≤ O.faults out.new }
         ensures cause { IsErrOf result SessionFault.Write → Rose (O.faults out.old) (O.faults out.new) }
         ensures not_ended { IsErrOf result SessionFault.Ended → ⊥ }
-        ensures steady { (n : ℕ) (os : List Outcome) (left : Names) → O.room out.old ≡ Some n → Script self.old bytes.now os left → length (lines self.old.statements os) ≤ n → IsErrOf result SessionFault.Write → ⊥ }
+        ensures steady { WholeIfSteady self.old (O.room out.old) bytes.now result }
     {
         self.feed(bytes, out)?;
         self.finish(out)?;

@@ -48,10 +48,12 @@ fn line_of(status: Status) -> &'static str
     }
 }
 
-/// Writes the line of a status to the error sink, and flushes it. A fault of this sink is passed over.
+/// Writes the line of a status to the error sink, and flushes it. A fault of this sink is passed over:
+/// where none was counted, the whole line was written and is flushed.
 pub fn report<E: Sink>(status: Status, err: &mut E)
     ensures prefix { AppendsPrefix (E.taken err.old) (E.taken err.new) (status_line status) }
     ensures whole { (Rose (E.faults err.old) (E.faults err.new) → ⊥) → Appends (E.taken err.old) (E.taken err.new) (status_line status) }
+    ensures flushed { (Rose (E.faults err.old) (E.faults err.new) → ⊥) → E.flushed err.new }
     ensures steady { (n : ℕ) → E.room err.old ≡ Some n → length (status_line status) ≤ n → Appends (E.taken err.old) (E.taken err.new) (status_line status) }
 {
     let line = line_of(status).as_bytes();

@@ -5,14 +5,14 @@ use Rattle.hopf.specs.Outcomes.{IsOutcome, line_of}
 use Rattle.hopf.proofs.OneOutcome.{outcome_once}
 use Rattle.hopf.proofs.session.Session.end_statement.Goals as goal
 
-pub returns-in_err-send_all-clause-err : goal.returns-in_err-send_all-clause-err
-returns-in_err-send_all-clause-err g c =
-    let p = err_from_is_err_and c.from_residual-in_err-send_all.result c.from_residual-in_err-send_all.ensures.1 in
+pub returns-in_err-send_line-clause-err : goal.returns-in_err-send_line-clause-err
+returns-in_err-send_line-clause-err g c =
+    let p = err_from_is_err_and c.from_residual-in_err-send_line.result c.from_residual-in_err-send_line.ensures.1 in
     let old = c.args.self.now in
     let whole : c.as_slice-2.result.now ≡ line_of (old.statements + 1) c.in_ok-outcome.outcome = search rules in
     let here : IsOutcome old.names old.pending c.in_ok-outcome.outcome c.outcome_of_text.new.names =
     subst (λ (text : List ℕ). IsOutcome old.names text c.in_ok-outcome.outcome c.outcome_of_text.new.names) c.as_slice.ensures c.in_ok-outcome.ensures.outcome in
-    let (written, appended, front) = c.in_err-send_all.ensures.part in
+    let (written, appended, front) = c.in_err-send_line.ensures.part in
     rw p.1 (record {
       written = written;
       appended = appended;
@@ -22,13 +22,13 @@ returns-in_err-send_all-clause-err g c =
       names = inr (c.in_ok-outcome.outcome, subst (λ names. IsOutcome old.names old.pending c.in_ok-outcome.outcome names) (sym c.count_outcome.ensures.names) here);
     })
 
-pub returns-in_err-send_all-clause-steady : goal.returns-in_err-send_all-clause-steady
-returns-in_err-send_all-clause-steady g c n outcome left room is fits =
+pub returns-in_err-send_line-clause-steady : goal.returns-in_err-send_line-clause-steady
+returns-in_err-send_line-clause-steady g c n outcome left room is fits =
     let old = c.args.self.now in
     let here : IsOutcome old.names old.pending c.in_ok-outcome.outcome c.outcome_of_text.new.names =
     subst (λ (text : List ℕ). IsOutcome old.names text c.in_ok-outcome.outcome c.outcome_of_text.new.names) c.as_slice.ensures c.in_ok-outcome.ensures.outcome in
     let same = outcome_once old.names old.pending c.in_ok-outcome.outcome outcome c.outcome_of_text.new.names left c.outcome_of_text.ensures.values here is in
     let whole : c.as_slice-2.result.now ≡ line_of (old.statements + 1) c.in_ok-outcome.outcome = search rules in
     let enough : length c.as_slice-2.result.now ≤ n = rw (whole, same.0) fits in
-    let never : false ≡ true = (c.in_err-send_all.ensures.steady n room enough).0 in
+    let never : false ≡ true = (c.in_err-send_line.ensures.steady n room enough).0 in
     absurd (cc)
