@@ -3,7 +3,7 @@ ghost use Rattle.std.specs.Prelude.{◌≡◌, ◌≤◌, length, take};
 ghost use Rattle.session_grammar.specs.Grammar.{inside};
 ghost use Rattle.index_spellings.specs.Indices.{index_in as index_spelled, begins_bad_list as begins_with_bad_list};
 
-use crate::composition_in;
+use crate::composition_lists::composition_in;
 use basis_names::{BasisId, algebra, limit};
 use linear_combos::Code;
 use session_tokens::Lexeme;

@@ -4,5 +4,5 @@
 mod composition_lists;
 mod indices;
 
-pub use composition_lists::{append_composition, composition_in};
+pub use composition_lists::append_composition;
 pub use indices::{begins_bad_list, index_in};

@@ -10,6 +10,6 @@ mod refusal;
 
 pub use evaluation::value_of;
 pub use laws::meaning_law;
-pub use names::{NAME_LIMIT, Names};
+pub use names::Names;
 pub use operator::Operator;
 pub use refusal::EvaluationRefusal;

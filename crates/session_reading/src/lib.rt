@@ -7,7 +7,6 @@ mod laws;
 mod parsing;
 mod sights;
 
-pub use depth::{DEPTH_LIMIT, is_too_deep};
 pub use fault::GrammarFault;
 pub use laws::parse_law;
 pub use parsing::parse;

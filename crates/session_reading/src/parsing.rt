@@ -2,8 +2,9 @@
 ghost use Rattle.std.specs.Prelude.{◌≡◌, ◌≤◌, length, IfOk, MatchOption};
 ghost use Rattle.session_reading.specs.Parses.{reserved_name as name_before_assign, IsFlawOfStatement, IsFlawless, Judges, fault_at, place_at as place_of, Parses};
 
+use crate::GrammarFault;
+use crate::depth::is_too_deep;
 use crate::sights::Sights;
-use crate::{GrammarFault, is_too_deep};
 use hopf_num::OutOfMemory;
 use session_grammar::{Parsed, Statement, statement_of};
 use session_tokens::{Lexeme, Name, Token, lexemes_of, tokens};
