@@ -16,6 +16,11 @@ pub enum Refusal {
     ZeroDivisor,
     /// Two components lie in algebras without a common one.
     Mixed(AlgebraId, AlgebraId),
+    /// A value of one algebra is not converted to a basis of the other: one of them is `QSym`, and the
+    /// other an algebra of words. It comes with conversions.
+    NoRoute(AlgebraId, AlgebraId),
+    /// Elements of the two algebras are not paired. It comes with the pairing.
+    NoPairing(AlgebraId, AlgebraId),
     /// A degree is past the limit of the algebras.
     Degree { degree: u32, limit: u32 },
     /// A number would pass its room. The need tells the numbers.

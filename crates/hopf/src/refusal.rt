@@ -1,5 +1,5 @@
 //! Why a statement is refused, and the line that says so.
-ghost use Rattle.std.specs.Prelude.{◌≡◌, ◌++◌, codes, OnOk, IfOk};
+ghost use Rattle.std.specs.Prelude.{◌≡◌, ◌++◌, OnOk, IfOk};
 ghost use Rattle.basis_names.specs.Bases.{name_of_algebra};
 ghost use Rattle.hopf.specs.Refusals.{number_of_fault, number_of_value, number_of, text_of_fault, text_of_value, text_of, refusal_line};
 
@@ -53,6 +53,8 @@ fn value_number(refusal: Refusal) -> u32
         Refusal::NotScalar => 11,
         Refusal::ZeroDivisor => 12,
         Refusal::Mixed(_, _) => 13,
+        Refusal::NoRoute(_, _) => 14,
+        Refusal::NoPairing(_, _) => 15,
         Refusal::Degree { .. } => 16,
         Refusal::TooLarge(_) => 17,
         Refusal::Memory => 0,
@@ -81,12 +83,18 @@ fn push_both(first: &[u8], second: &[u8], out: &mut Bytes) -> Result<(), OutOfMe
     out.push_all(second)
 }
 
-// Appends that two algebras have no common one.
-fn push_mixed(a: AlgebraId, b: AlgebraId, out: &mut Bytes) -> Result<(), OutOfMemory>
-    ensures { OnOk result (out.new ≡ out.old ++ (codes "no common algebra for " ++ name_of_algebra a ++ codes " and " ++ name_of_algebra b)) }
+// Appends the names of two algebras, each with a text before it.
+fn push_algebras(
+    before: &[u8],
+    a: AlgebraId,
+    between: &[u8],
+    b: AlgebraId,
+    out: &mut Bytes,
+) -> Result<(), OutOfMemory>
+    ensures { OnOk result (out.new ≡ out.old ++ (before.now ++ name_of_algebra a ++ between.now ++ name_of_algebra b)) }
 {
-    push_both(b"no common algebra for ", algebra_name(a), out)?;
-    push_both(b" and ", algebra_name(b), out)
+    push_both(before, algebra_name(a), out)?;
+    push_both(between, algebra_name(b), out)
 }
 
 // Appends the text of a fault of the grammar.
@@ -119,7 +127,9 @@ fn push_value(alloc: Global, refusal: Refusal, out: &mut Bytes) -> Result<(), Ou
         Refusal::Component => out.push_all(b"no such component"),
         Refusal::NotScalar => out.push_all(b"divisor is not a scalar"),
         Refusal::ZeroDivisor => out.push_all(b"division by zero"),
-        Refusal::Mixed(a, b) => push_mixed(a, b, out),
+        Refusal::Mixed(a, b) => push_algebras(b"no common algebra for ", a, b" and ", b, out),
+        Refusal::NoRoute(a, b) => push_algebras(b"no conversion from ", a, b" to ", b, out),
+        Refusal::NoPairing(a, b) => push_algebras(b"no pairing of ", a, b" and ", b, out),
         Refusal::Degree { degree, limit } => {
             out.push_all(format!(in alloc; "degree {degree} is past {limit}")?.as_bytes())
         }
