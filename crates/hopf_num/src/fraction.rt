@@ -6,8 +6,8 @@ ghost use Rattle.hopf_num.specs.Room.{TestsRoom, product_rule, sum_rule};
 ghost use Rattle.hopf_num.specs.declared.room.Need.TheVariants.{CommonDenominator, Denominator, Linear, Sum};
 ghost use Rattle.hopf_num.specs.declared.room.NumFault.TheVariants.{ZeroDivisor};
 
-use crate::exact_arithmetic::{negation, product, quotient, sum_of_products};
 use crate::decimal::{put_decimal, put_signed};
+use crate::exact_arithmetic::{negation, product, quotient, sum_of_products};
 use crate::{Need, NumFault, gcd, lcm};
 use std::marker::Model;
 

@@ -10,10 +10,10 @@ ghost use Rattle.linear_combos.specs.Merges.{IsCombined, IsOver, IsSignedSum};
 ghost use Rattle.linear_combos.specs.Faults.{TestsRoom, IsTested};
 
 use crate::Key;
-use crate::unreduced::{Unreduced, common_divisor, divide};
 use crate::merge::merge;
 use crate::tensor::add_products;
 use crate::terms::{copy_terms, place, remove_term};
+use crate::unreduced::{Unreduced, common_divisor, divide};
 use hopf_num::{Fraction, Need, OutOfMemory, lcm, product};
 use std::alloc::{AllocError, Global};
 use std::marker::Model;
