@@ -1,5 +1,5 @@
 -- What a session says of the whole input.
-use Rattle.std.proofs.Common.{◌≡◌, ℕ, ◌+◌, ◌≤◌, List, [], ◌∷◌, ◌++◌, Bool, true, false, ◌||◌, if◌then◌else◌, nat_lt, length, Option, Some, None, Err, IsErrOf, IfSome, refl, ap, ◌∙◌, sym, subst, arith, append-nil}
+use Rattle.std.proofs.Common.{◌≡◌, ℕ, ◌+◌, List, [], ◌∷◌, ◌++◌, Bool, true, false, ◌||◌, if◌then◌else◌, nat_lt, Option, Some, None, Err, IfSome, refl, ap, ◌∙◌, sym, subst, arith, append-nil}
 use Rattle.std.proofs.lemmas.Bool.{lt-ltb}
 use Rattle.std.proofs.lemmas.List.Sums.{sum_by-cons}
 use Rattle.std.specs.Io.KnownBytes.{Consumes, IsAtEnd}
@@ -11,7 +11,7 @@ use Rattle.hopf.specs.declared.status.Status.{Status}
 use Rattle.hopf.specs.declared.status.Status.TheVariants.{Memory, WriteFault}
 use Rattle.session_evaluation.specs.Names.{Names}
 use Rattle.hopf.specs.Outcomes.{is_refusal}
-use Rattle.hopf.specs.Transcript.{IsScript, lines, count_refused, some_refused}
+use Rattle.hopf.specs.Transcript.{IsScript, count_refused, some_refused}
 use Rattle.hopf.specs.Sessions.{Pends, Script, Runs, StopsWhole, WholeIfSteady}
 use Rattle.hopf.proofs.Sessions.{at_kept}
 use Rattle.hopf.specs.Runs.{is_refused, WritesTranscript, WritesPrefix, HasRoom}
