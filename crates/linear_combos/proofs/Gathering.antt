@@ -7,8 +7,8 @@ use Rattle.std.specs.List.{insert, remove}
 use Rattle.std.proofs.lemmas.Int.{ints}
 use Rattle.std.proofs.lemmas.List.Sums.{sum_by-cons, sum_by-insert, sum_by-set, sum_by-remove}
 use Rattle.realisations.specs.Readings.{Terms}
-use Rattle.realisations.specs.Combinations.{key_cmp, term_at, norm_of, weighed, HasRisingKeys, HasKey, AreTerms, AddsTerm}
-use Rattle.linear_combos.specs.Combos.{IsAt, IsGapFor}
+use Rattle.realisations.specs.Combinations.{key_cmp, term_at, norm_of, HasRisingKeys, AreTerms, AddsTerm}
+use Rattle.linear_combos.specs.Combos.{IsAt, IsGapFor, Gathers}
 use Rattle.linear_combos.specs.Merges.{GreaterFrom}
 use Rattle.hopf_num.proofs.SumsOfProducts.{abs_sum}
 use Rattle.realisations.proofs.KeyOrders.{same_key}
@@ -99,13 +99,6 @@ module _ (rank : ℕ) (us : Terms) (num : ℤ) (key : List (List ℕ)) (old : Ar
       ]
     ]
   ]
-
--- canonical terms that weigh as much as others, whatever the keys weigh, with no larger norm and no other keys
-pub record Gathers (rank : ℕ) (ts us : Terms) : Type 0 where
-  pub terms : AreTerms rank us
-  pub norm : norm_of us ≤ norm_of ts
-  pub weighs : (weight : List (List ℕ) → ℤ) → weighed weight us ≡ weighed weight ts
-  pub keys : (key : List (List ℕ)) → HasKey us key → HasKey ts key
 
 -- one term more
 gathers_more : (rank : ℕ) (t : ℤ × List (List ℕ)) (ts us new : Terms) → Gathers rank ts us → Adds rank us new t.0 t.1 → Gathers rank (t ∷ ts) new

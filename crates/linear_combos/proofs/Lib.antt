@@ -6,11 +6,15 @@ pub mod LastDigit
 pub mod Letters
 pub mod LowestCombos
 pub mod Merging
+pub mod Multiples
 pub mod Numerals
 pub mod Packed
+pub mod Permuted
 pub mod Place
 pub mod Powers
+pub mod Pushed
 pub mod RoomOfCombos
+pub mod Sorted
 pub mod SumsOfCombos
 pub mod Tensors
 pub mod Weights

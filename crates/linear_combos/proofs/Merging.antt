@@ -6,7 +6,6 @@ use Rattle.std.specs.declared.cmp.Ordering.{Ordering}
 use Rattle.std.specs.declared.cmp.Ordering.TheVariants.{Less, Equal, Greater}
 use Rattle.std.proofs.lemmas.Int.{ints, unsigned_abs-mul}
 use Rattle.std.proofs.lemmas.List.{take_more, take_all, get_or_default}
-use Rattle.std.proofs.lemmas.List.Sums.{sum_by_more, sum_by-take-le}
 use Rattle.hopf_num.proofs.Ring.{+ℤ-*ℤ}
 use Rattle.hopf_num.proofs.SumsOfProducts.{abs_sum}
 use Rattle.realisations.specs.Readings.{Terms}
@@ -16,7 +15,7 @@ use Rattle.linear_combos.specs.Merges.{GreaterFrom, IsNext, IsMerged, IsOver, Is
 use Rattle.realisations.proofs.Coefficients.{less_turned}
 use Rattle.realisations.proofs.KeyOrders.{same_key}
 use Rattle.linear_combos.proofs.Place.{greater_from}
-use Rattle.linear_combos.proofs.Weights.{weighed-insert}
+use Rattle.linear_combos.proofs.Weights.{weighed-insert, norm-more, norm-part}
 use Rattle.linear_combos.proofs.LowestCombos.{push-insert}
 use Rattle.realisations.proofs.Agreement.{times_turned}
 
@@ -46,12 +45,11 @@ weighed-factor w a p i lt =
 norm-factor : (a : Terms) (p : ℤ) (i : ℕ) → i < length a
     → norm_of (take (i + 1) a) * unsigned_abs p ≡ norm_of (take i a) * unsigned_abs p + unsigned_abs ((term_at a i).0 *ℤ p)
 norm-factor a p i lt =
-    let more = sum_by_more (λ (t : ℤ × List (List ℕ)). unsigned_abs t.0) a i (pos 0, []) lt in
-    omega (arith, ap (λ n. n * unsigned_abs p) more, unsigned_abs-mul (term_at a i).0 p)
+    omega (arith, ap (λ n. n * unsigned_abs p) (norm-more a i lt), unsigned_abs-mul (term_at a i).0 p)
 
 -- a part of the terms, times a factor, within all
-norm-part : (a : Terms) (p : ℤ) (i : ℕ) → norm_of (take i a) * unsigned_abs p ≤ norm_of a * unsigned_abs p
-norm-part a p i = mul-le-mul_right (unsigned_abs p) (sum_by-take-le (λ (t : ℤ × List (List ℕ)). unsigned_abs t.0) a i)
+part-factor : (a : Terms) (p : ℤ) (i : ℕ) → norm_of (take i a) * unsigned_abs p ≤ norm_of a * unsigned_abs p
+part-factor a p i = mul-le-mul_right (unsigned_abs p) (norm-part a i)
 
 -- keys that are greater from a place on are so from the next one on
 greater_later : (key : List (List ℕ)) (a : Terms) (i : ℕ) → GreaterFrom a key i → GreaterFrom a key (i + 1)
@@ -81,7 +79,7 @@ module _ (a : Terms) (p : ℤ) (b : Terms) (q : ℤ) (i j : ℕ) (ts : Terms) (i
 
   -- and room
   pub left_room : norm_of ts + unsigned_abs ((term_at a i).0 *ℤ p) < 2 ^ 127
-  left_room = omega (arith, is.norm, norm-factor a p i here, norm-part a p (i + 1), norm-part b q j, room)
+  left_room = omega (arith, is.norm, norm-factor a p i here, part-factor a p (i + 1), part-factor b q j, room)
 
   -- the next term of the first list was added
   left_more : (new : Terms) → GreaterFrom b ((term_at a i).1) j → HasRisingKeys a → AddsTerm ts new ((term_at a i).0 *ℤ p) ((term_at a i).1)
@@ -115,7 +113,7 @@ module _ (a : Terms) (p : ℤ) (b : Terms) (q : ℤ) (i j : ℕ) (ts : Terms) (i
   module _ (there : j < length b) where
     -- the sum of the next terms of both lists has room
     pub both_room : norm_of ts + (unsigned_abs ((term_at a i).0 *ℤ p) + unsigned_abs ((term_at b j).0 *ℤ q)) < 2 ^ 127
-    both_room = omega (arith, is.norm, norm-factor a p i here, norm-part a p (i + 1), norm-factor b q j there, norm-part b q (j + 1), room)
+    both_room = omega (arith, is.norm, norm-factor a p i here, part-factor a p (i + 1), norm-factor b q j there, part-factor b q (j + 1), room)
 
     -- the next terms of both lists, which have one key, were added
     both_more : (new : Terms) → (term_at a i).1 ≡ (term_at b j).1 → HasRisingKeys a → HasRisingKeys b

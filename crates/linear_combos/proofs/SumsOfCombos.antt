@@ -1,9 +1,7 @@
 -- Sums, differences and multiples of combinations, from combinations of their terms.
-use Rattle.std.proofs.Common.{◌≡◌, ℕ, ◌*◌, ◌/◌, ◌≤◌, [], inl, inr, sym, ◌∙◌, ap, arith}
+use Rattle.std.proofs.Common.{◌≡◌, ℕ, ◌*◌, ◌/◌, ◌≤◌, sym, ◌∙◌, ap}
 use Rattle.std.proofs.Math.IntN.{ℤ, pos, negsuc, neg_ℤ, ◌+ℤ◌, ◌*ℤ◌, *ℤ-one, *ℤ-negsuc, one}
-use Rattle.std.proofs.lemmas.Int.{ints}
 use Rattle.hopf_num.specs.Divisors.{IsLcm}
-use Rattle.hopf_num.specs.Fractions.{Ratio}
 use Rattle.hopf_num.proofs.Ring.{*ℤ_assoc}
 use Rattle.hopf_num.proofs.SumsOfRatios.{ratio-sum}
 use Rattle.realisations.specs.Combinations.{Combination, weighed}
@@ -53,17 +51,4 @@ IsMultiple-over a c den is = record {
   rank = is.rank;
   weighs = λ w. is.weighs w ∙ ap (λ z. z *ℤ pos c.den) (sym (*ℤ-one (weighed w a.terms)));
   keys = is.keys;
-}
-
--- over the product of the denominators, with no second terms
-pub IsMultiple-combined : (a c : Combination) (by : Ratio) → IsCombined a.rank (a.den * by.den) a.terms by.num [] (pos 0) c → IsMultiple a by c
-IsMultiple-combined a c by is = record {
-  rank = is.rank;
-  weighs = λ w.
-      let none : weighed w a.terms *ℤ by.num +ℤ weighed w [] *ℤ pos 0 ≡ weighed w a.terms *ℤ by.num = omega (arith, ints) in
-      is.weighs w ∙ ap (λ z. z *ℤ pos c.den) none;
-  keys = λ key has. elim (is.keys key has) [
-    | inl old ↦ old
-    | inr none ↦ absurd (omega (arith, none.1))
-  ];
 }

@@ -1,5 +1,5 @@
 -- Steps of the tensor product of two combinations.
-use Rattle.std.proofs.Common.{◌≡◌, ℕ, ◌+◌, ◌*◌, ◌^◌, ◌<◌, ◌≤◌, [], ◌∷◌, ◌++◌, length, List, take, inl, inr, refl, sym, ◌∙◌, ap, subst, arith, unsigned_abs}
+use Rattle.std.proofs.Common.{◌≡◌, ℕ, ◌+◌, ◌*◌, ◌^◌, ◌<◌, ◌≤◌, [], ◌∷◌, ◌++◌, length, take, inl, inr, refl, sym, ◌∙◌, ap, subst, arith, unsigned_abs}
 use Rattle.std.proofs.Math.IntN.{ℤ, pos, ◌+ℤ◌, ◌*ℤ◌, *ℤ-zero}
 use Rattle.std.proofs.Math.Nat.{mul-le-mul_left, mul-le-mul_right}
 use Rattle.std.specs.declared.cmp.Ordering.{Ordering}
@@ -9,7 +9,6 @@ use Rattle.std.specs.Cmp.Lexicographic.{slice_cmp, nat_list_cmp_total}
 use Rattle.std.proofs.lemmas.Cmp.{tied_itself}
 use Rattle.std.proofs.lemmas.Int.{ints, unsigned_abs-mul}
 use Rattle.std.proofs.lemmas.List.{take_all}
-use Rattle.std.proofs.lemmas.List.Sums.{sum_by_more, sum_by-take-le}
 use Rattle.hopf_num.proofs.Ring.{*ℤ-+ℤ, *ℤ_assoc}
 use Rattle.realisations.specs.Readings.{Terms}
 use Rattle.realisations.specs.Combinations.{Combination, key_cmp, term_at, norm_of, weighed, AreTerms, AddsTerm}
@@ -17,6 +16,7 @@ use Rattle.linear_combos.specs.Combos.{IsGapFor, IsTensor}
 use Rattle.linear_combos.specs.Merges.{IsOver, IsPairBefore, AreProducts}
 use Rattle.realisations.proofs.Coefficients.{Codes}
 use Rattle.linear_combos.proofs.Merging.{last_gap, weighed-more}
+use Rattle.linear_combos.proofs.Weights.{norm-more, norm-part}
 
 -- the first comparison decides, or else the later one
 then_less : (o p q : Ordering) → ordering_then o p ≡ Less → (p ≡ Less → q ≡ Less) → ordering_then o q ≡ Less
@@ -37,14 +37,6 @@ key_cmp-append_same : (a c d : Codes) → key_cmp c d ≡ Less → key_cmp (a ++
 key_cmp-append_same [] c d less = less
 key_cmp-append_same (x ∷ a) c d less =
     ap (λ o. ordering_then o (key_cmp (a ++ c) (a ++ d))) (tied_itself nat_list_cmp_total x) ∙ key_cmp-append_same a c d less
-
--- the norm with a term more
-norm-more : (a : Terms) (i : ℕ) → i < length a → norm_of (take (i + 1) a) ≡ norm_of (take i a) + unsigned_abs (term_at a i).0
-norm-more a i lt = sum_by_more (λ (t : ℤ × List (List ℕ)). unsigned_abs t.0) a i (pos 0, []) lt
-
--- the norm of a part
-norm-part : (a : Terms) (i : ℕ) → norm_of (take i a) ≤ norm_of a
-norm-part a i = sum_by-take-le (λ (t : ℤ × List (List ℕ)). unsigned_abs t.0) a i
 
 -- a pair before a place is before the next one
 pair_later : (a b : Terms) (i j : ℕ) (key : Codes) → IsPairBefore a b i j key → IsPairBefore a b i (j + 1) key

@@ -3,7 +3,7 @@ use Rattle.std.specs.Prelude.{◌≡◌, ℕ, ◌+◌, ◌*◌, ◌<◌, ◌≤�
 use Rattle.std.specs.declared.cmp.Ordering.TheVariants.{Less}
 use Rattle.hopf_num.specs.Fractions.{Ratio}
 use Rattle.realisations.specs.Readings.{Terms}
-use Rattle.realisations.specs.Combinations.{Combination, key_cmp, norm_of, term_at, HasKey, weighed}
+use Rattle.realisations.specs.Combinations.{Combination, key_cmp, norm_of, term_at, HasKey, AreTerms, weighed}
 
 -- the term at a place has the key
 pub record IsAt (ts : Terms) (key : List (List ℕ)) (i : ℕ) : Type 0 where
@@ -46,3 +46,20 @@ pub record IsTensor (a b c : Combination) : Type 0 where
       → (left : List (List ℕ)) × (right : List (List ℕ)) × HasKey a.terms left × HasKey b.terms right × (key ≡ left ++ right)
   pub den : c.den ≤ a.den * b.den
   pub norm : norm_of c.terms ≤ norm_of a.terms * norm_of b.terms
+
+-- each key has so many codes
+abbrev pub HasRank : ℕ → Terms → Type 0
+HasRank rank ts = (i : ℕ) → i < length ts → length ((term_at ts i).1) ≡ rank
+
+-- canonical terms that weigh as much as others, in any order, whatever the keys weigh, with no larger norm and no other keys
+pub record Gathers (rank : ℕ) (ts us : Terms) : Type 0 where
+  pub terms : AreTerms rank us
+  pub norm : norm_of us ≤ norm_of ts
+  pub weighs : (weight : List (List ℕ) → ℤ) → weighed weight us ≡ weighed weight ts
+  pub keys : (key : List (List ℕ)) → HasKey us key → HasKey ts key
+
+-- the combination over 1 of terms in any order
+pub record IsSumOfTerms (rank : ℕ) (ts : Terms) (c : Combination) : Type 0 where
+  pub rank_is : c.rank ≡ rank
+  pub whole : c.den ≡ 1
+  pub gathers : Gathers rank ts c.terms

@@ -1,6 +1,8 @@
+pub mod CodeLists
 pub mod Codes
 pub mod Combos
 pub mod Faults
+pub mod Gathering
 pub mod KeyOrder
 pub mod Keys
 pub mod Merges

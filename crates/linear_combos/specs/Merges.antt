@@ -24,6 +24,17 @@ pub record IsUnreduced (rank den : ℕ) (ts : Terms) (norm common : ℕ) : Type 
 abbrev pub quotients : ℕ → Terms → Terms
 quotients g ts = map (λ t. (int_div t.0 (pos g), t.1)) ts
 
+-- the same keys with multiples of the numerators
+abbrev pub multiples : ℤ → Terms → Terms
+multiples p ts = map (λ t. (t.0 *ℤ p, t.1)) ts
+
+-- the terms are multiples of canonical ones, canonical themselves where they have room: whatever the keys weigh, they weigh p times as much, and they have no other keys
+pub record AreMultiples (p : ℤ) (ts us : Terms) : Type 0 where
+  pub terms : (rank : ℕ) → AreTerms rank ts → AreTerms rank us
+  pub norm : norm_of us ≡ norm_of ts * unsigned_abs p
+  pub weighs : (weight : List (List ℕ) → ℤ) → weighed weight us ≡ weighed weight ts *ℤ p
+  pub keys : (key : List (List ℕ)) → HasKey us key → HasKey ts key
+
 -- each key from a place on is greater
 abbrev pub GreaterFrom : Terms → List (List ℕ) → ℕ → Type 0
 GreaterFrom ts key i = (j : ℕ) → i ≤ j → j < length ts → key_cmp key ((term_at ts j).1) ≡ Less

@@ -20,7 +20,7 @@ const MOST: usize = 15;
 /// the longer code. The word has sixteen places of four bits. The letters are in the first ones, from
 /// the highest on, and 0 is in each place behind them; so the order of the words is that of the codes.
 /// No call of a code takes memory.
-#[derive(Clone, Copy)]
+#[derive(Clone, Copy, Debug)]
 pub struct Code {
     word: u64,
 }

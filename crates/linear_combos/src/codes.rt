@@ -1,5 +1,8 @@
 //! Lists of codes.
 ghost use Rattle.std.specs.Prelude.{◌≡◌, ◌<◌, ◌++◌, ◌∷◌, [], ℕ, List, length, slice_index_or, OnOk, OnErr};
+ghost use Rattle.std.specs.List.Sorted.{IsPermutation, IsSorted};
+ghost use Rattle.std.specs.Ordering.{nat_cmp};
+ghost use Rattle.std.specs.Cmp.Lexicographic.{slice_cmp};
 
 use crate::Code;
 use hopf_num::OutOfMemory;
@@ -35,6 +38,15 @@ impl Codes {
     {
         self.items.push(code)?;
         Ok(())
+    }
+
+    /// Brings the codes into canonical order, each as often as before. It takes no memory. The cost is that
+    /// of a sort; codes in order already are only looked at.
+    pub fn sort(&mut self)
+        ensures permutation { IsPermutation self.old self.new }
+        ensures sorted { IsSorted (slice_cmp nat_cmp) self.new }
+    {
+        self.items.sort_unstable();
     }
 
     /// How many codes there are.

@@ -1,5 +1,5 @@
 //! Combinations: a rank, a denominator, and terms in canonical form.
-ghost use Rattle.std.specs.Prelude.{◌≡◌, ◌≢◌, ◌↔◌, ◌+◌, ◌*◌, ◌*ℤ◌, ◌/◌, ◌^◌, ◌<◌, ◌≤◌, ℕ, ℤ, pos, [], ◌∷◌, length, OnOk, OnErr, unsigned_abs, IfOk, IsTrue};
+ghost use Rattle.std.specs.Prelude.{◌≡◌, ◌≢◌, ◌↔◌, ◌+◌, ◌*◌, ◌*ℤ◌, ◌/◌, ◌^◌, ◌<◌, ◌≤◌, ℕ, ℤ, pos, [], ◌∷◌, length, OnOk, OnErr, unsigned_abs, IfOk, IsErrOf, IsTrue};
 ghost use Rattle.std.specs.List.{insert};
 ghost use Rattle.hopf_num.specs.Divisors.{IsLcm};
 ghost use Rattle.hopf_num.specs.Room.{IsNeed, product_rule, sum_rule};
@@ -13,7 +13,7 @@ use crate::Key;
 use crate::merge::merge;
 use crate::tensor::add_products;
 use crate::terms::{copy_terms, place, remove_term};
-use crate::unreduced::{Unreduced, common_divisor, divide};
+use crate::unreduced::{Unreduced, common_divisor, divide, multiply};
 use hopf_num::{Fraction, Need, OutOfMemory, lcm, product};
 use std::alloc::{AllocError, Global};
 use std::marker::Model;
@@ -255,10 +255,51 @@ impl Combo {
         let num = by.num();
         let den = by.den() as u128;
         test_product(a.den, den, a.norm, num.unsigned_abs())?;
-        match combine(alloc, a.rank, a.den * den, &a.terms, num, &[], 0) {
-            Ok(multiple) => Ok(multiple),
+        match a.copy(alloc) {
+            Ok(copy) => Ok(copy.multiplied(num, den)),
             Err(_) => Err(ComboFault::Memory),
         }
+    }
+
+    /// The product with a fraction, made of the combination itself. By 0 it is zero.
+    ///
+    /// It answers `TooLarge` as `scale` does. It takes no memory. The cost is that of `scale`.
+    pub fn scaled(self, by: &Fraction) -> Result<Combo, ComboFault>
+        ensures multiple { IfOk result (IsMultiple self by.now) }
+        ensures room { TestsRoom (product_rule self.den by.now.den (norm_of self.terms) (unsigned_abs by.now.num) 0) result }
+        ensures no_memory { IsErrOf result ComboFault.Memory → ⊥ }
+    {
+        let num = by.num();
+        let den = by.den() as u128;
+        match test_product(self.den, den, self.norm, num.unsigned_abs()) {
+            Ok(()) => Ok(self.multiplied(num, den)),
+            Err(fault) => Err(fault),
+        }
+    }
+
+    // The product with a numerator over a denominator, where it has room.
+    fn multiplied(self, num: i128, den: u128) -> Combo
+        requires positive { 1 ≤ den }
+        requires den { self.den * den < 2 ^ 127 }
+        requires norm { norm_of self.terms * unsigned_abs num < 2 ^ 127 }
+        ensures { IsMultiple self (record { num = num; den = den }) result }
+    {
+        let den = self.den * den;
+        let Combo {
+            rank,
+            norm,
+            mut terms,
+            ..
+        } = self;
+        multiply(&mut terms, num);
+        let common = common_divisor(den, &terms);
+        Combo::lowest(Unreduced {
+            rank,
+            den,
+            common,
+            norm: norm * num.unsigned_abs(),
+            terms,
+        })
     }
 
     /// The combination divided by a positive number. It takes no memory.
@@ -396,6 +437,20 @@ impl Combo {
         Ok(Combo::lowest(tensor))
     }
 
+    // The combination of canonical terms over 1, with their norm.
+    pub(crate) fn whole(rank: u32, norm: u128, terms: Vec<(i128, Key)>) -> Combo
+        requires terms { AreTerms rank terms.items }
+        requires norm { norm ≡ norm_of terms.items }
+        ensures { result ≡ record { rank = rank; den = 1; terms = terms.items } }
+    {
+        Combo {
+            rank,
+            den: 1,
+            norm,
+            terms,
+        }
+    }
+
     // The combination of these terms, in lowest terms.
     fn lowest(sum: Unreduced) -> Combo
         ensures { IsOver sum.rank sum.den sum.terms result }
@@ -430,7 +485,8 @@ fn test(need: Need) -> Result<(), ComboFault>
 
 // Whether the product of values with these denominators and norms has room.
 fn test_product(left_den: u128, right_den: u128, left: u128, right: u128) -> Result<(), ComboFault>
-    ensures { TestsRoom (product_rule left_den right_den left right 0) result }
+    ensures room { TestsRoom (product_rule left_den right_den left right 0) result }
+    ensures no_memory { IsErrOf result ComboFault.Memory → ⊥ }
 {
     test(Need::Denominator {
         left: left_den,

@@ -101,7 +101,7 @@ fn scaled(terms: &[(i128, Key)], at: usize, factor: i128) -> i128
 }
 
 // The sum of two numerators.
-fn total(left: i128, right: i128) -> i128
+pub(crate) fn total(left: i128, right: i128) -> i128
     requires { unsigned_abs left + unsigned_abs right < 2 ^ 127 }
     ensures { result ≡ left +ℤ right }
 {

@@ -1,11 +1,11 @@
 //! Terms over a denominator that may have a factor in common with them.
-ghost use Rattle.std.specs.Prelude.{◌≡◌, ◌≢◌, ◌+◌, ◌^◌, ◌<◌, ◌≤◌, pos, int_div, [], ◌∷◌, ◌++◌, length, slice_set, unsigned_abs, OnOk, OnErr};
+ghost use Rattle.std.specs.Prelude.{◌≡◌, ◌≢◌, ◌+◌, ◌^◌, ◌<◌, ◌≤◌, ◌*◌, ◌*ℤ◌, pos, int_div, [], ◌∷◌, ◌++◌, length, slice_set, unsigned_abs, OnOk, OnErr};
 ghost use Rattle.realisations.specs.Combinations.{AddsTerm, norm_of, term_at};
 ghost use Rattle.linear_combos.specs.Combos.{IsGapFor};
-ghost use Rattle.linear_combos.specs.Merges.{IsCommon, quotients};
+ghost use Rattle.linear_combos.specs.Merges.{IsCommon, AreMultiples, multiples, quotients};
 
 use crate::Key;
-use hopf_num::{OutOfMemory, gcd, quotient};
+use hopf_num::{OutOfMemory, gcd, product, quotient};
 use std::alloc::Global;
 use std::marker::Model;
 
@@ -95,6 +95,39 @@ pub(crate) fn common_divisor(den: u128, terms: &[(i128, Key)]) -> u128
         common = gcd(term.0.unsigned_abs(), common);
     }
     common
+}
+
+// Multiplies each numerator; by 0 no term is left.
+pub(crate) fn multiply(terms: &mut Vec<(i128, Key)>, by: i128)
+    requires { norm_of terms.old.items * unsigned_abs by < 2 ^ 127 }
+    ensures { AreMultiples by terms.old.items terms.new.items }
+{
+    if by == 0 {
+        terms.clear();
+        return;
+    }
+    multiply_each(terms, by);
+}
+
+// The same by a number that is not 0.
+fn multiply_each(terms: &mut Vec<(i128, Key)>, by: i128)
+    requires nonzero { by ≢ pos 0 }
+    requires room { norm_of terms.old.items * unsigned_abs by < 2 ^ 127 }
+    ensures { terms.new.items ≡ multiples by terms.old.items }
+{
+    for at in 0..terms.len() {
+        multiply_term(terms, at, by);
+    }
+}
+
+// Multiplies the numerator at a place.
+fn multiply_term(terms: &mut Vec<(i128, Key)>, at: usize, by: i128)
+    requires in_range { at < length terms.old.items }
+    requires room { unsigned_abs ((term_at terms.old.items at).0 *ℤ by) < 2 ^ 127 }
+    ensures { terms.new.items ≡ slice_set terms.old.items at ((term_at terms.old.items at).0 *ℤ by, (term_at terms.old.items at).1) }
+{
+    let term = &mut terms[at];
+    term.0 = product(term.0, by);
 }
 
 // Divides each numerator by a common divisor.
