@@ -2,6 +2,7 @@
 
 use hopf_laws::AlgebraId;
 use hopf_num::Need;
+use linear_combos::Code;
 
 /// Why an operation on values has no answer.
 #[derive(Clone, Copy, Debug, PartialEq, Eq)]
@@ -22,9 +23,19 @@ pub enum Refusal {
     /// Elements of the two algebras are not paired. It comes with the pairing.
     NoPairing(AlgebraId, AlgebraId),
     /// A degree is past the limit of the algebras.
-    Degree { degree: u32, limit: u32 },
+    Degree {
+        degree: u32,
+        limit: u32,
+    },
     /// A number would pass its room. The need tells the numbers.
     TooLarge(Need),
+    /// An element is not in a subalgebra: it reads differently at two words of one class. It comes with
+    /// conversions.
+    NotInSub {
+        algebra: AlgebraId,
+        u: Code,
+        v: Code,
+    },
     /// Memory ran out.
     Memory,
 }

@@ -2,6 +2,8 @@
 use Rattle.std.specs.Prelude.{ℕ, List, ◌++◌, codes}
 use Rattle.std.specs.Fmt.{decimal}
 use Rattle.basis_names.specs.Bases.{name_of_algebra}
+use Rattle.basis_names.specs.declared.bases.AlgebraId.{AlgebraId}
+use Rattle.index_spellings.specs.Compositions.{composition_text}
 use Rattle.basis_routes.specs.declared.refusal.Refusal.{Refusal}
 use Rattle.session_reading.specs.declared.fault.GrammarFault.{GrammarFault}
 use Rattle.hopf.specs.declared.refusal.StatementRefusal.{StatementRefusal}
@@ -29,6 +31,7 @@ number_of_value (value.NoRoute a b) = 14
 number_of_value (value.NoPairing a b) = 15
 number_of_value (value.Degree degree limit) = 16
 number_of_value (value.TooLarge need) = 17
+number_of_value (value.NotInSub algebra u v) = 18
 number_of_value value.Memory = 0
 
 abbrev pub number_of : StatementRefusal → ℕ
@@ -49,6 +52,10 @@ text_of_fault fault.NotBuilt = codes "not built yet"
 text_of_fault (fault.BadIndex place) = codes "bad index at byte " ++ decimal place
 text_of_fault fault.Memory = codes "out of memory"
 
+-- the words are spelled as lists
+abbrev pub text_not_in : AlgebraId → List ℕ → List ℕ → List ℕ
+text_not_in algebra u v = codes "not in " ++ name_of_algebra algebra ++ codes ": " ++ composition_text u ++ codes " and " ++ composition_text v ++ codes " read differently"
+
 abbrev pub text_of_value : Refusal → List ℕ
 text_of_value value.Rank = codes "wrong rank"
 text_of_value value.Component = codes "no such component"
@@ -59,6 +66,7 @@ text_of_value (value.NoRoute a b) = codes "no conversion from " ++ name_of_algeb
 text_of_value (value.NoPairing a b) = codes "no pairing of " ++ name_of_algebra a ++ codes " and " ++ name_of_algebra b
 text_of_value (value.Degree degree limit) = codes "degree " ++ decimal degree ++ codes " is past " ++ decimal limit
 text_of_value (value.TooLarge need) = codes "coefficient room passed"
+text_of_value (value.NotInSub algebra u v) = text_not_in algebra u v
 text_of_value value.Memory = codes "out of memory"
 
 abbrev pub text_of : StatementRefusal → List ℕ

@@ -1,12 +1,14 @@
 //! Why a statement is refused, and the line that says so.
 ghost use Rattle.std.specs.Prelude.{◌≡◌, ◌++◌, OnOk, IfOk};
 ghost use Rattle.basis_names.specs.Bases.{name_of_algebra};
-ghost use Rattle.hopf.specs.Refusals.{number_of_fault, number_of_value, number_of, text_of_fault, text_of_value, text_of, refusal_line};
+ghost use Rattle.hopf.specs.Refusals.{number_of_fault, number_of_value, number_of, text_of_fault, text_of_value, text_not_in, text_of, refusal_line};
 
 use basis_names::{AlgebraId, algebra_name};
 use basis_routes::Refusal;
 use hopf_io::Bytes;
 use hopf_num::OutOfMemory;
+use index_spellings::append_composition;
+use linear_combos::Code;
 use session_reading::GrammarFault;
 use session_tokens::Name;
 use std::alloc::Global;
@@ -57,6 +59,7 @@ fn value_number(refusal: Refusal) -> u32
         Refusal::NoPairing(_, _) => 15,
         Refusal::Degree { .. } => 16,
         Refusal::TooLarge(_) => 17,
+        Refusal::NotInSub { .. } => 18,
         Refusal::Memory => 0,
     }
 }
@@ -97,6 +100,24 @@ fn push_algebras(
     push_both(between, algebra_name(b), out)
 }
 
+// Appends that an element is not in an algebra, since it reads differently at two words.
+fn push_not_in(
+    alloc: Global,
+    algebra: AlgebraId,
+    u: Code,
+    v: Code,
+    out: &mut Bytes,
+) -> Result<(), OutOfMemory>
+    ensures { OnOk result (out.new ≡ out.old ++ text_not_in algebra u v) }
+{
+    push_both(b"not in ", algebra_name(algebra), out)?;
+    out.push_all(b": ")?;
+    append_composition(alloc, &u, out)?;
+    out.push_all(b" and ")?;
+    append_composition(alloc, &v, out)?;
+    out.push_all(b" read differently")
+}
+
 // Appends the text of a fault of the grammar.
 fn push_fault(alloc: Global, fault: &GrammarFault, out: &mut Bytes) -> Result<(), OutOfMemory>
     ensures { OnOk result (out.new ≡ out.old ++ text_of_fault fault.now) }
@@ -134,6 +155,7 @@ fn push_value(alloc: Global, refusal: Refusal, out: &mut Bytes) -> Result<(), Ou
             out.push_all(format!(in alloc; "degree {degree} is past {limit}")?.as_bytes())
         }
         Refusal::TooLarge(_) => out.push_all(b"coefficient room passed"),
+        Refusal::NotInSub { algebra, u, v } => push_not_in(alloc, algebra, u, v, out),
         Refusal::Memory => out.push_all(b"out of memory"),
     }
 }
