@@ -6,4 +6,6 @@ mod keys;
 #[cfg(test)]
 mod lists_of_parts;
 #[cfg(test)]
+mod orders_of_compositions;
+#[cfg(test)]
 mod values;

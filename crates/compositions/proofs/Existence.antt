@@ -1,5 +1,5 @@
 -- The law of existence: the product of two elements has a combination that is its answer.
-use Rattle.std.proofs.Common.{◌≡◌, ℕ, ◌+◌, ◌^◌, ◌<◌, ◌≤◌, List, [], ◌∷◌, map, length, inr, refl, subst, arith, unsigned_abs}
+use Rattle.std.proofs.Common.{◌≡◌, ℕ, ◌+◌, ◌^◌, ◌<◌, ◌≤◌, List, [], ◌∷◌, map, length, refl, subst, ◌∙◌, arith, unsigned_abs}
 use Rattle.std.proofs.Math.IntN.{ℤ, pos}
 use Rattle.std.proofs.lemmas.Int.{ints}
 use Rattle.std.specs.List.{sum, All}
@@ -11,11 +11,11 @@ use Rattle.realisations.specs.IndexKinds.{IsComposition}
 use Rattle.realisations.specs.Lists.{int_sum}
 use Rattle.realisations.specs.Readings.{Terms, product, element}
 use Rattle.basis_names.specs.declared.bases.BasisId.TheVariants.{QsymM}
-use Rattle.linear_combos.proofs.Edits.{lowest_one}
-use Rattle.linear_combos.proofs.Gathering.{Gathers, gathered}
-use Rattle.compositions.specs.QuasiShuffles.{quasi_shuffles, AddsShuffles, IsKeyOf}
+use Rattle.linear_combos.specs.Combos.{Gathers}
+use Rattle.linear_combos.proofs.Gathering.{gathered}
+use Rattle.compositions.specs.QuasiShuffles.{quasi_shuffles, AreShuffles, IsProduct, IsKeyOf}
 use Rattle.compositions.proofs.Parts.{length-le-sum, shuffles_bound}
-use Rattle.compositions.proofs.Readings.{shuffles_answer}
+use Rattle.compositions.proofs.Readings.{product_answer}
 
 -- a composition of n
 pub record IsCompositionOf (n : ℕ) (w : List ℕ) : Type 0 where
@@ -72,13 +72,11 @@ keys-once n ws h key (i, lt, is) =
     subst (IsKeyOf n) is
     (All-map (λ (t : ℤ × List (List ℕ)). IsKeyOf n t.1) (λ w. (pos 1, w ∷ [])) ws (λ k d le. let c = h k d le in (_, refl, c.positive, c.size)) i (pos 0, []) lt)
 
--- what gathers the quasi-shuffles was made by adding them to nothing
-adds_gathered : (j k : List ℕ) (us : Terms) → IsComposition j → IsComposition k → Gathers 1 (terms_once (quasi_shuffles j k)) us → AddsShuffles [] us [] j k
-adds_gathered j k us hj hk g = record {
-  weighs = λ weight. omega (arith, ints, g.weighs weight, weighed-once weight (quasi_shuffles j k));
-  keys = λ key has.
-      let size : sum j + sum k ≡ 0 + sum j + sum k = omega arith in
-      inr (subst (λ n. IsKeyOf n key) size (keys-once _ (quasi_shuffles j k) (shuffles_compositions j k hj hk) key (g.keys key has)));
+-- what gathers the quasi-shuffles is their sum
+shuffles_gathered : (j k : List ℕ) (us : Terms) → IsComposition j → IsComposition k → Gathers 1 (terms_once (quasi_shuffles j k)) us → AreShuffles j k us
+shuffles_gathered j k us hj hk g = record {
+  weighs = λ weight. g.weighs weight ∙ weighed-once weight (quasi_shuffles j k);
+  keys = λ key has. keys-once _ (quasi_shuffles j k) (shuffles_compositions j k hj hk) key (g.keys key has);
 }
 
 -- the product of two elements has a combination that is its answer
@@ -90,4 +88,5 @@ product_exists j k hj hk le =
     let few : length ws ≤ 3 ^ 12 = shuffles_bound 12 j k (omega (arith, length-le-sum j hj, length-le-sum k hk)) in
     let g = gathered 1 (terms_once ws) (length-once ws) (omega (arith, size)) in
     let c : Combination = record { rank = 1; den = 1; terms = g.0 } in
-    (c, shuffles_answer j k c (record { ordered = g.1.terms; lowest = lowest_one g.0 }) hj hk refl refl (omega (arith, size, g.1.norm)) (adds_gathered j k g.0 hj hk g.1))
+    let is : IsProduct j k c = record { rank = refl; whole = refl; terms = g.1.terms; norm = omega (arith, size, g.1.norm); shuffles = shuffles_gathered j k g.0 hj hk g.1 } in
+    (c, product_answer j k c hj hk is)

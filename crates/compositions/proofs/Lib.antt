@@ -1,4 +1,11 @@
+pub mod ChosenBits
 pub mod Cuts
+pub mod Existence
+pub mod GrowingCodes
+pub mod GrownCompositions
+pub mod ListedCompositions
+pub mod OrderedLists
 pub mod Parts
 pub mod Readings
-pub mod Existence
+pub mod Rows
+pub mod SmallCodes

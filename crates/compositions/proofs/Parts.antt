@@ -1,5 +1,5 @@
 -- Compositions as codes, and their quasi-shuffles.
-use Rattle.std.proofs.Common.{◌≡◌, ℕ, zero, suc, ◌+◌, ◌*◌, ◌^◌, ◌<◌, ◌≤◌, Bool, true, false, ◌&&◌, List, [], ◌∷◌, ◌++◌, map, length, inl, inr, refl, subst, sym, ◌∙◌, ap, arith, length-append, drop, get_or, append_assoc}
+use Rattle.std.proofs.Common.{◌≡◌, ℕ, zero, suc, ◌+◌, ◌*◌, ◌^◌, ◌<◌, ◌≤◌, Bool, true, false, ◌&&◌, List, [], ◌∷◌, ◌++◌, map, length, refl, ◌∙◌, ap, arith, length-append, drop, get_or}
 use Rattle.std.specs.Prelude.{nat_le}
 use Rattle.std.proofs.lemmas.List.{length-map}
 use Rattle.std.proofs.Math.Nat.{pow-suc}
@@ -7,14 +7,12 @@ use Rattle.std.proofs.lemmas.Nat.{pow-add}
 use Rattle.std.proofs.Math.IntN.{ℤ, pos, ◌+ℤ◌, ◌*ℤ◌, *ℤ_comm, *ℤ-one, one}
 use Rattle.std.proofs.lemmas.Int.{ints}
 use Rattle.realisations.specs.Lists.{int_sum}
-use Rattle.realisations.specs.Readings.{Terms}
-use Rattle.realisations.specs.Combinations.{AddsTerm}
 use Rattle.std.specs.List.{sum}
 use Rattle.std.proofs.lemmas.List.Sums.{sum_by-cons, sum_by-append}
 use Rattle.std.proofs.lemmas.Bool.Decides.{nat_tests}
 use Rattle.linear_combos.specs.Codes.{IsCode, all_letters}
 use Rattle.realisations.specs.IndexKinds.{IsComposition}
-use Rattle.compositions.specs.QuasiShuffles.{quasi_shuffles, AddsShuffles, IsKeyOf}
+use Rattle.compositions.specs.QuasiShuffles.{quasi_shuffles}
 
 pub IsComposition-append : (j k : List ℕ) → IsComposition j → IsComposition k → IsComposition (j ++ k)
 IsComposition-append [] k hj hk = hk
@@ -76,27 +74,13 @@ pub length-shuffles : (a b : List ℕ) → 1 ≤ length a → 1 ≤ length b →
     length (quasi_shuffles a b) ≡ length (quasi_shuffles (rest a) b) + length (quasi_shuffles a (rest b)) + length (quasi_shuffles (rest a) (rest b))
 length-shuffles a b la lb = ap length (shuffles_parts a b la lb) ∙ simp (length-append, length-map)
 
-int_sum-append : (xs ys : List ℤ) → int_sum (xs ++ ys) ≡ int_sum xs +ℤ int_sum ys
+pub int_sum-append : (xs ys : List ℤ) → int_sum (xs ++ ys) ≡ int_sum xs +ℤ int_sum ys
 int_sum-append [] ys = omega (arith, ints)
 int_sum-append (x ∷ xs) ys = omega (arith, ints, int_sum-append xs ys)
 
-one_times : (z : ℤ) → pos 1 *ℤ z ≡ z
+pub one_times : (z : ℤ) → pos 1 *ℤ z ≡ z
 unfolding one
 one_times z = *ℤ_comm (pos 1) z ∙ *ℤ-one z
-
--- the weight of the words behind a word
-abbrev pub behind : (List (List ℕ) → ℤ) → List ℕ → List (List ℕ) → ℤ
-behind g word ws = int_sum (map (λ w. g ((word ++ w) ∷ [])) ws)
-
-behind-append : (g : List (List ℕ) → ℤ) (word : List ℕ) (xs ys : List (List ℕ)) → behind g word (xs ++ ys) ≡ behind g word xs +ℤ behind g word ys
-behind-append g word [] ys = omega (arith, ints)
-behind-append g word (x ∷ xs) ys = omega (arith, ints, behind-append g word xs ys)
-
-behind-first : (g : List (List ℕ) → ℤ) (word : List ℕ) (x : ℕ) (ws : List (List ℕ)) → behind g word (map (λ w. x ∷ w) ws) ≡ behind g (word ++ x ∷ []) ws
-behind-first g word x [] = refl
-behind-first g word x (w ∷ ws) =
-    let same : g ((word ++ x ∷ w) ∷ []) ≡ g (((word ++ x ∷ []) ++ w) ∷ []) = ap (λ v. g (v ∷ [])) (sym (append_assoc word (x ∷ []) w)) in
-    omega (arith, ints, behind-first g word x ws)
 
 pub sum_parts : (a : List ℕ) → 1 ≤ length a → sum a ≡ get_or a 0 0 + sum (rest a)
 sum_parts [] le = absurd (omega arith)
@@ -104,49 +88,6 @@ sum_parts (x ∷ a) le = sum_by-cons (λ x. x) x a
 
 pub sum_more : (word : List ℕ) (x : ℕ) → sum (word ++ x ∷ []) ≡ sum word + x
 sum_more word x = omega (arith, sum_by-append (λ x. x) word (x ∷ []))
-
--- the key of a composition of one size is that of one of an equal size
-resized : (n m : ℕ) (key : List (List ℕ)) → n ≡ m → IsKeyOf n key → IsKeyOf m key
-resized n m key e h = subst (λ k. IsKeyOf k key) e h
-
-pub adds_parts : (old one two new : Terms) (word a b : List ℕ) → 1 ≤ length a → 1 ≤ length b
-    → AddsShuffles old one (word ++ get_or a 0 0 ∷ []) (rest a) b
-    → AddsShuffles one two (word ++ get_or b 0 0 ∷ []) a (rest b)
-    → AddsShuffles two new (word ++ (get_or a 0 0 + get_or b 0 0) ∷ []) (rest a) (rest b)
-    → AddsShuffles old new word a b
-adds_parts old one two new word a b la lb p q r = record {
-  weighs = λ g.
-      let x = map (λ w. get_or a 0 0 ∷ w) (quasi_shuffles (rest a) b) in
-      let y = map (λ w. get_or b 0 0 ∷ w) (quasi_shuffles a (rest b)) in
-      let z = map (λ w. (get_or a 0 0 + get_or b 0 0) ∷ w) (quasi_shuffles (rest a) (rest b)) in
-      let whole : behind g word (quasi_shuffles a b) ≡ behind g word ((x ++ y) ++ z) = ap (behind g word) (shuffles_parts a b la lb) in
-      omega (
-        arith,
-        ints,
-        whole,
-        behind-append g word (x ++ y) z,
-        behind-append g word x y,
-        behind-first g word (get_or a 0 0) (quasi_shuffles (rest a) b),
-        behind-first g word (get_or b 0 0) (quasi_shuffles a (rest b)),
-        behind-first g word (get_or a 0 0 + get_or b 0 0) (quasi_shuffles (rest a) (rest b)),
-        p.weighs g,
-        q.weighs g,
-        r.weighs g,
-      );
-  keys = λ key has.
-      let sa = sum_parts a la in
-      let sb = sum_parts b lb in
-      elim (r.keys key has) [
-        | inr new_key ↦ inr (resized _ _ key (omega (arith, sa, sb, sum_more word (get_or a 0 0 + get_or b 0 0))) new_key)
-        | inl has_two ↦ elim (q.keys key has_two) [
-          | inr new_key ↦ inr (resized _ _ key (omega (arith, sa, sb, sum_more word (get_or b 0 0))) new_key)
-          | inl has_one ↦ elim (p.keys key has_one) [
-            | inr new_key ↦ inr (resized _ _ key (omega (arith, sa, sb, sum_more word (get_or a 0 0))) new_key)
-            | inl has_old ↦ inl has_old
-          ]
-        ]
-      ];
-}
 
 -- one of the lists is empty
 pub shuffles_left : (a b : List ℕ) → length a ≡ 0 → quasi_shuffles a b ≡ b ∷ []
@@ -156,19 +97,6 @@ shuffles_left (x ∷ a) b e = absurd (omega arith)
 pub shuffles_right : (a b : List ℕ) → length b ≡ 0 → quasi_shuffles a b ≡ a ∷ []
 shuffles_right a [] e = quasi_shuffles-nil a
 shuffles_right a (x ∷ b) e = absurd (omega arith)
-
--- one term, where there is one quasi-shuffle
-pub adds_one : (old new : Terms) (word a b c : List ℕ) → quasi_shuffles a b ≡ c ∷ [] → sum c ≡ sum a + sum b → IsComposition word → IsComposition c
-    → AddsTerm old new (pos 1) ((word ++ c) ∷ []) → AddsShuffles old new word a b
-adds_one old new word a b c e size hw hc h = record {
-  weighs = λ g.
-      let whole : behind g word (quasi_shuffles a b) ≡ behind g word (c ∷ []) = ap (behind g word) e in
-      omega (arith, ints, whole, h.weighs g, one_times (g ((word ++ c) ∷ [])));
-  keys = λ key has. elim (h.keys key has) [
-    | inl has_old ↦ inl has_old
-    | inr is ↦ inr (word ++ c, is, IsComposition-append word c hw hc, omega (arith, size, sum_by-append (λ x. x) word c))
-  ];
-}
 
 pow_positive : (n : ℕ) → 1 ≤ 3 ^ n
 pow_positive zero = omega arith

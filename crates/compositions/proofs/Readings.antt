@@ -1,11 +1,11 @@
 -- The reading of a product of two elements, and of the sum of their quasi-shuffles.
-use Rattle.std.proofs.Common.{◌≡◌, ℕ, ◌+◌, ◌*◌, ◌≤◌, List, [], ◌∷◌, map, length, inl, inr, refl, subst, sym, ◌∙◌, ap, arith}
+use Rattle.std.proofs.Common.{◌≡◌, ℕ, ◌+◌, ◌*◌, List, [], ◌∷◌, map, refl, subst, sym, ◌∙◌, ap, arith}
 use Rattle.std.proofs.Math.IntN.{pos, ◌*ℤ◌}
 use Rattle.std.proofs.lemmas.Int.{ints}
 use Rattle.std.specs.List.{flat_map, sum}
 use Rattle.realisations.proofs.TuplesOfPoints.{at_one_point}
 use Rattle.realisations.specs.Answers.{IsAnswer}
-use Rattle.realisations.specs.Combinations.{Combination, IsCanonical, HasKey, norm_of}
+use Rattle.realisations.specs.Combinations.{Combination, IsCanonical}
 use Rattle.realisations.specs.IndexKinds.{IsComposition}
 use Rattle.realisations.specs.Indices.{AreIndices, total_degree}
 use Rattle.realisations.specs.Lists.{int_sum}
@@ -14,7 +14,8 @@ use Rattle.realisations.specs.Points.{exponents}
 use Rattle.realisations.specs.Readings.{Terms, leaf, product, element, numerator, all_cuts, occurrence, AgreeAt}
 use Rattle.basis_names.specs.declared.bases.BasisId.TheVariants.{QsymM}
 use Rattle.realisations.proofs.Sums.{sums}
-use Rattle.compositions.specs.QuasiShuffles.{quasi_shuffles, AddsShuffles, IsKeyOf}
+use Rattle.compositions.specs.QuasiShuffles.{quasi_shuffles, AreShuffles, IsProduct, IsKeyOf}
+use Rattle.linear_combos.proofs.Edits.{lowest_one}
 use Rattle.compositions.proofs.Parts.{length-le-sum, shuffles_small}
 use Rattle.compositions.proofs.Cuts.{occurs_monomial, shuffled, cut_sum, shuffled_is}
 
@@ -40,19 +41,12 @@ words_at p [] = refl
 words_at p (w ∷ ws) = omega (arith, ints, words_at p ws)
 
 -- terms that are the quasi-shuffles read as the product
-pub shuffles_read : (j k : List ℕ) (new : Terms) → IsComposition j → IsComposition k → AddsShuffles [] new [] j k
+pub shuffles_read : (j k : List ℕ) (new : Terms) → IsComposition j → IsComposition k → AreShuffles j k new
     → (p : List ℕ) → AgreeAt (leaf (QsymM ∷ []) 1 new) (product (element QsymM j) (element QsymM k)) (p ∷ [])
 shuffles_read j k new hj hk h p =
     let left : numerator (leaf (QsymM ∷ []) 1 new) (p ∷ []) ≡ pos (shuffled j k p) = omega (arith, ints, h.weighs (λ key. pos (occurrence (QsymM ∷ []) key (p ∷ []))), words_at p (quasi_shuffles j k)) in
     let same : pos (shuffled j k p) ≡ pos (cut_sum j k p) = ap pos (shuffled_is j k hj hk p) in
     ap (λ z. z *ℤ pos 1) (left ∙ same ∙ sym (product_at j k p))
-
--- terms that are the quasi-shuffles have the keys of these alone
-key_of_new : (j k : List ℕ) (new : Terms) → AddsShuffles [] new [] j k → (key : List (List ℕ)) → HasKey new key → IsKeyOf (sum j + sum k) key
-key_of_new j k new h key has = elim (h.keys key has) [
-  | inl none ↦ absurd (omega (arith, none.1))
-  | inr is ↦ let size : 0 + sum j + sum k ≡ sum j + sum k = omega arith in subst (λ n. IsKeyOf n key) size is
-]
 
 index_of_key : (n : ℕ) (key : List (List ℕ)) → IsKeyOf n key → AreIndices (QsymM ∷ []) key
 index_of_key n key (code, is, composition, size) = rw is (composition, tt)
@@ -61,15 +55,14 @@ degree_of_key : (n : ℕ) (key : List (List ℕ)) → IsKeyOf n key → total_de
 degree_of_key n key (code, is, composition, size) = rw is (omega (arith, size))
 
 -- the sum of the quasi-shuffles is the answer of the product of two elements
-pub shuffles_answer : (j k : List ℕ) (c : Combination) → IsCanonical c.rank c.den c.terms → IsComposition j → IsComposition k → c.rank ≡ 1 → c.den ≡ 1
-    → norm_of c.terms ≤ length (quasi_shuffles j k) → AddsShuffles [] c.terms [] j k
+pub product_answer : (j k : List ℕ) (c : Combination) → IsComposition j → IsComposition k → IsProduct j k c
     → IsAnswer (QsymM ∷ []) (sum j + sum k) (product (element QsymM j) (element QsymM k)) c
-shuffles_answer j k c canonical hj hk rank whole norm h = record {
-  canonical = canonical;
-  rank = rank;
-  whole = whole;
-  small = omega (arith, norm, shuffles_small (sum j + sum k) j k (omega (arith, length-le-sum j hj, length-le-sum k hk)));
-  indices = λ key has. index_of_key _ key (key_of_new j k c.terms h key has);
-  degrees = λ key has. degree_of_key _ key (key_of_new j k c.terms h key has);
-  reads = at_one_point exponents (AgreeAt (leaf (QsymM ∷ []) 1 c.terms) (product (element QsymM j) (element QsymM k))) (λ p point. shuffles_read j k c.terms hj hk h p);
+product_answer j k c hj hk is = record {
+  canonical = subst (λ r. IsCanonical r c.den c.terms) (sym is.rank) (subst (λ d. IsCanonical 1 d c.terms) (sym is.whole) (record { ordered = is.terms; lowest = lowest_one c.terms }));
+  rank = is.rank;
+  whole = is.whole;
+  small = omega (arith, is.norm, shuffles_small (sum j + sum k) j k (omega (arith, length-le-sum j hj, length-le-sum k hk)));
+  indices = λ key has. index_of_key _ key (is.shuffles.keys key has);
+  degrees = λ key has. degree_of_key _ key (is.shuffles.keys key has);
+  reads = at_one_point exponents (AgreeAt (leaf (QsymM ∷ []) 1 c.terms) (product (element QsymM j) (element QsymM k))) (λ p point. shuffles_read j k c.terms hj hk is.shuffles p);
 }

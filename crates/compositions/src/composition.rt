@@ -47,6 +47,14 @@ impl Composition {
         Some(Composition { code })
     }
 
+    // The composition whose parts are the letters of a code, of a sum of at most 12.
+    pub(crate) fn holding(code: Code) -> Composition
+        requires { IsSmallComposition code }
+        ensures { result ≡ code }
+    {
+        Composition { code }
+    }
+
     /// The parts as a code.
     pub fn code(&self) -> &Code
         ensures value { result.now ≡ self.now }

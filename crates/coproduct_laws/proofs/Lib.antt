@@ -1,7 +1,9 @@
 pub mod AddedPairs
+pub mod AddingPairs
 pub mod CoproductCounts
 pub mod CutLetters
 pub mod LowAndHigh
+pub mod MonomialRule
 pub mod PackedShuffles
 pub mod RangeSums
 pub mod Rearrangements
@@ -11,3 +13,4 @@ pub mod StandardShuffles
 pub mod ValueCuts
 pub mod ValuePairs
 pub mod ValueRules
+pub mod WordCuts

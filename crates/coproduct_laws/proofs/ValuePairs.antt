@@ -82,7 +82,7 @@ value_pairs s h =
     (permutation_from (letters_up_to k s) (permutation-up_to s permutation k within), permutation_from (lower k (letters_past k s)) (permutation-past s permutation k within), length_cut k s))
 
 -- n + 1 is at most 2^n
-suc-le-pow_two : (n : ℕ) → suc n ≤ 2 ^ n
+pub suc-le-pow_two : (n : ℕ) → suc n ≤ 2 ^ n
 suc-le-pow_two zero = omega arith
 suc-le-pow_two (suc n) = omega (arith, pow-suc 2 n, suc-le-pow_two n)
 

@@ -1,5 +1,5 @@
 //! Laws of coproducts. A function here computes nothing: callers cite its clause.
-ghost use Rattle.coproduct_laws.specs.Laws.{PackedCoproductLaw, ValueCoproductLaw, AnswerLaw};
+ghost use Rattle.coproduct_laws.specs.Laws.{PackedCoproductLaw, ValueCoproductLaw, MonomialCoproductLaw, AnswerLaw};
 
 /// The coproduct of an element of `WQSym.M` (Hivert 1999): for each k from 0 to the greatest letter
 /// of its packed word, the letters up to k, tensor the letters past k lowered by k.
@@ -15,6 +15,14 @@ pub fn packed_coproduct_law()
 /// Nothing is computed: callers cite the clause.
 pub fn value_coproduct_law()
     ensures { ValueCoproductLaw }
+{}
+
+/// The coproduct of an element of `QSym.M` (Gessel 1984): for each cut of its composition the first
+/// parts, tensor the others.
+///
+/// Nothing is computed: callers cite the clause.
+pub fn monomial_coproduct_law()
+    ensures { MonomialCoproductLaw }
 {}
 
 /// A canonical combination of rank 2 over 1, to which the pairs of a coproduct rule were added, each

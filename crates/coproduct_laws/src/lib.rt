@@ -6,4 +6,4 @@
 
 mod laws;
 
-pub use laws::{answer_law, packed_coproduct_law, value_coproduct_law};
+pub use laws::{answer_law, monomial_coproduct_law, packed_coproduct_law, value_coproduct_law};

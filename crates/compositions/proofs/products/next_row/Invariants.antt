@@ -1,0 +1,5 @@
+use Rattle.compositions.specs.QuasiShuffles.{AreProducts}
+use Rattle.compositions.proofs.products.next_row.Given as goal
+
+abbrev pub invariant-loop-len : goal.invariant-loop-len
+invariant-loop-len l = AreProducts l.a l.b l.len l.row.items
