@@ -6,7 +6,6 @@ use Rattle.std.proofs.Math.Pow.{pow_mono}
 use Rattle.std.proofs.lemmas.Nat.{pow_pos}
 use Rattle.std.proofs.lemmas.Int.{ints, unsigned_abs-mul}
 use Rattle.std.proofs.lemmas.List.{take_all}
-use Rattle.std.proofs.lemmas.List.Sums.{sum_by_more, sum_by-take-le}
 use Rattle.hopf_num.proofs.Ring.{*ℤ-+ℤ, *ℤ_assoc, *ℤ-pos_cancel}
 use Rattle.realisations.specs.Combinations.{Combination, IsCanonical, HasKey, norm_of, term_at, weighed, AddsTerm}
 use Rattle.realisations.specs.Indices.{AreIndices, total_degree}
@@ -15,18 +14,13 @@ use Rattle.realisations.specs.Points.{ArePoints}
 use Rattle.realisations.specs.Readings.{Terms, leaf, product, of_key, occurrence, numerator}
 use Rattle.realisations.proofs.Coefficients.{Codes}
 use Rattle.realisations.proofs.Linearity.{reads_bilinearly}
+use Rattle.linear_combos.specs.Combos.{IsSumOfTerms}
+use Rattle.linear_combos.proofs.Edits.{lowest_one}
 use Rattle.linear_combos.proofs.Merging.{weighed-more}
+use Rattle.linear_combos.proofs.Weights.{norm-more, norm-part}
 use Rattle.basis_names.specs.declared.bases.BasisId.{BasisId}
 use Rattle.basis_routes.proofs.Degrees.{degree-le-greatest}
 use Rattle.hopf_ops.specs.Gathering.{IsGathered, AreFactors, AreFactorKeys, IsProductOfKeys, AreGathered, AddsMultiple, degree_of_product}
-
--- the norm with a term more
-norm-more : (ts : Terms) (i : ℕ) → i < length ts → norm_of (take (i + 1) ts) ≡ norm_of (take i ts) + unsigned_abs (term_at ts i).0
-norm-more ts i lt = sum_by_more (λ (t : ℤ × List (List ℕ)). unsigned_abs t.0) ts i (pos 0, []) lt
-
--- the norm of a part
-norm-part : (ts : Terms) (i : ℕ) → norm_of (take i ts) ≤ norm_of ts
-norm-part ts i = sum_by-take-le (λ (t : ℤ × List (List ℕ)). unsigned_abs t.0) ts i
 
 -- a factor before the weight of one term more
 scaled-more : (x : ℤ) (w : Codes → ℤ) (ts : Terms) (i : ℕ) → i < length ts
@@ -215,6 +209,22 @@ row_gathered bases ts us i c here is =
           );
     }
 
+-- what gathers terms that are products is made of the same products
+gathers_kept : (bases : List BasisId) (ts us : Terms) (i j : ℕ) (c d : Combination) → AreGathered bases ts us i j c → IsSumOfTerms c.rank c.terms d → AreGathered bases ts us i j d
+gathers_kept bases ts us i j c d old sum = record {
+  rank = sum.rank_is ∙ old.rank;
+  whole = sum.whole;
+  indices = λ key has. old.indices key (sum.gathers.keys key has);
+  degrees = λ key has. old.degrees key (sum.gathers.keys key has);
+  norm = omega (arith, sum.gathers.norm, old.norm);
+  reads = λ ps points. sum.gathers.weighs (λ key. pos (occurrence bases key ps)) ∙ old.reads ps points;
+}
+
+-- and is canonical
+sum_canonical : (rank : ℕ) (ts : Terms) (d : Combination) → IsSumOfTerms rank ts d → IsCanonical d.rank d.den d.terms
+sum_canonical rank ts d sum =
+    subst (λ r. IsCanonical r d.den d.terms) (sym sum.rank_is) (subst (λ n. IsCanonical rank n d.terms) (sym sum.whole) (record { ordered = sum.gathers.terms; lowest = lowest_one d.terms }))
+
 -- all rows are the product
 pub all_gathered : (bases : List BasisId) (a b c : Combination) → IsCanonical c.rank c.den c.terms → AreGathered bases a.terms b.terms (length a.terms) 0 c
     → IsGathered bases (degree_of_product bases a.terms b.terms) a b c
@@ -231,3 +241,8 @@ all_gathered bases a b c canonical is =
           omega (arith, ints, is.reads ps points, ap (weighed (λ k. weighed (f k) b.terms)) whole, *ℤ-zero (term_at a.terms (length a.terms)).0) in
           all ∙ sym (reads_bilinearly bases a.den b.den a.terms b.terms ps);
     }
+
+-- the sum of all products
+pub sum_gathered : (bases : List BasisId) (a b c d : Combination) → AreGathered bases a.terms b.terms (length a.terms) 0 c → IsSumOfTerms c.rank c.terms d
+    → IsGathered bases (degree_of_product bases a.terms b.terms) a b d
+sum_gathered bases a b c d all sum = all_gathered bases a b d (sum_canonical c.rank c.terms d sum) (gathers_kept bases a.terms b.terms (length a.terms) 0 c d all sum)

@@ -7,6 +7,7 @@ pub mod ProductsExist
 pub mod ProductsOfKeys
 pub mod ProductsOfValues
 pub mod Rooms
+pub mod ScalarMultiples
 pub mod ScalarProductsExist
 pub mod SumsExist
 pub mod SumsInPlace

@@ -7,7 +7,8 @@ use Rattle.hopf_num.proofs.CommonDivisors.{gcd-exists}
 use Rattle.realisations.specs.Readings.{Terms}
 use Rattle.realisations.specs.Combinations.{Combination, IsCanonical, AreTerms, norm_of, term_at}
 use Rattle.linear_combos.specs.Merges.{IsCommon, IsUnreduced, IsOver as IsCombinationOver, quotients}
-use Rattle.linear_combos.proofs.Gathering.{Gathers, gathered}
+use Rattle.linear_combos.specs.Combos.{Gathers}
+use Rattle.linear_combos.proofs.Gathering.{gathered}
 use Rattle.linear_combos.proofs.LowestCombos.{IsCanonical-quotients, IsOver-quotients}
 use Rattle.basis_names.specs.declared.bases.BasisId.{BasisId}
 use Rattle.hopf_laws.specs.Values.{IsValue}

@@ -8,7 +8,7 @@ use Rattle.hopf_num.specs.Fractions.{Ratio, with_sign_of}
 use Rattle.hopf_num.specs.Room.{HasRoom, product_rule}
 use Rattle.hopf_num.specs.declared.room.Need.TheVariants.{Denominator, Product}
 use Rattle.hopf_num.proofs.LowestTerms.{abs-neg}
-use Rattle.realisations.specs.Combinations.{Combination}
+use Rattle.realisations.specs.Combinations.{Combination, IsCanonical}
 use Rattle.linear_combos.specs.Combos.{IsMultiple}
 use Rattle.realisations.specs.Readings.{leaf, multiple, occurrence, numerator, AgreeAt}
 use Rattle.hopf_laws.specs.Values.{Expansion, IsValue, reading_of}
@@ -23,6 +23,12 @@ multiple_over a by c ha is = record {
   indices = λ key has. ha.indices key (is.keys key has);
   degrees = λ key has. ha.degrees key (is.keys key has);
 }
+
+-- so it is a value
+pub multiple_value : (a : Expansion) (by : Ratio) (c : Combination) → IsValue a → IsMultiple a.combination by c → IsCanonical c.rank c.den c.terms → IsValue (record { bases = a.bases; combination = c })
+multiple_value a by c ha is canonical =
+    let over = multiple_over a by c ha is in
+    record { short = over.short; built = over.built; rank = over.rank; canonical = canonical; indices = over.indices; degrees = over.degrees }
 
 -- and reads as the multiple
 pub multiple_reads : (a : Expansion) (by : Ratio) (c : Combination) → IsMultiple a.combination by c

@@ -119,7 +119,7 @@ tensor_value a b ha hb short within small room =
       record {
         value = value_over (a.bases ++ b.bases) c.0 (tensor_over a b c.0 ha hb short within c.1.tensor) c.1.canonical;
         over = refl;
-        reads = λ ps points. tensor_reads a b c.0 ha c.1.tensor ps points;
+        reads = λ ps points. tensor_reads a b c.0 ha c.1.tensor.weighs ps points;
       },
     )
 

@@ -1,6 +1,6 @@
 -- The combination of a tensor product as a value.
 use Rattle.std.proofs.Common.{◌≡◌, ◌+◌, ◌*◌, ◌≤◌, ◌⊎◌, inl, inr, List, [], ◌∷◌, ◌++◌, length, map, take, drop, sym, ◌∙◌, ap, subst, arith}
-use Rattle.std.proofs.Math.IntN.{pos, ◌*ℤ◌, pos-*ℤ-pos}
+use Rattle.std.proofs.Math.IntN.{ℤ, pos, ◌*ℤ◌, pos-*ℤ-pos}
 use Rattle.std.proofs.Math.Nat.{mul_assoc}
 use Rattle.std.proofs.lemmas.List.{length-append, length-map, append-nil}
 use Rattle.realisations.specs.Lists.{one_if}
@@ -87,8 +87,12 @@ weighed-tensor bases bases' ts us ps h long =
     ∙ sym (pos-*ℤ-pos (occurrence bases ((term_at ts i).1) (take (length bases) ps)) (occurrence bases' right (drop (length bases) ps)))) j) us))
     ∙ sym (weighed-times (λ key. pos (occurrence bases key (take (length bases) ps))) (λ key. pos (occurrence bases' key (drop (length bases) ps))) ts us)
 
+-- whatever the keys weigh, a combination weighs as the tensor product of two
+abbrev pub WeighsAsTensor : Combination → Combination → Combination → Type 0
+WeighsAsTensor a b c = (weight : Codes → ℤ) → weighed weight c.terms *ℤ (pos a.den *ℤ pos b.den) ≡ weighed (λ left. weighed (λ right. weight (left ++ right)) b.terms) a.terms *ℤ pos c.den
+
 -- and reads as the tensor product
-pub tensor_reads : (a b : Expansion) (c : Combination) → IsValue a → IsTensor a.combination b.combination c
+pub tensor_reads : (a b : Expansion) (c : Combination) → IsValue a → WeighsAsTensor a.combination b.combination c
     → (ps : Codes) → ArePoints (map kind_of (a.bases ++ b.bases)) ps → AgreeAt (leaf (a.bases ++ b.bases) c.den c.terms) (tensor (reading_of a) (reading_of b)) ps
 tensor_reads a b c ha is ps points =
     let bases = a.bases in
@@ -97,7 +101,7 @@ tensor_reads a b c ha is ps points =
     let size : length ps ≡ length bases + length bases' = omega (arith, length-points_over (a.bases ++ b.bases) ps points, length-append a.bases b.bases) in
     let kinds : length bases ≡ length (map kind_of bases) = sym (length-map bases kind_of) in
     ap (λ z. numerator (leaf (bases ++ bases') c.den c.terms) ps *ℤ z) (sym (pos-*ℤ-pos a.combination.den b.combination.den))
-    ∙ is.weighs (λ key. pos (occurrence (bases ++ bases') key ps))
+    ∙ is (λ key. pos (occurrence (bases ++ bases') key ps))
     ∙ ap (λ z. z *ℤ pos c.den) (weighed-tensor bases bases' a.combination.terms b.combination.terms ps terms size)
     ∙ ap (λ n. (numerator (reading_of a) (take n ps) *ℤ numerator (reading_of b) (drop n ps)) *ℤ pos c.den) kinds
 

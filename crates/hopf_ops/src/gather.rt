@@ -8,12 +8,12 @@ ghost use Rattle.hopf_ops.specs.Gathering.{IsOfIndices, IsGathered, AreFactors, 
 
 use basis_routes::{Bases, product_of};
 use hopf_num::{OutOfMemory, product};
-use linear_combos::{Combo, ComboFault, Key};
+use linear_combos::{Combo, ComboBuilder, ComboFault, Key};
 use std::alloc::Global;
 
 // The product of two combinations over the same bases, without their denominators: each two terms'
-// keys are multiplied once, and the terms gathered. The cost is that of these products of keys, and a
-// search for each of their terms.
+// keys are multiplied once, and the terms gathered. The cost is that of these products of keys, and of
+// sorting their terms.
 pub(crate) fn gathered_products(
     alloc: Global,
     bases: &Bases,
@@ -28,15 +28,15 @@ pub(crate) fn gathered_products(
     requires room { norm_of a.now.terms * norm_of b.now.terms * 2 ^ (5 * (greatest_degree bases.now a.now.terms + greatest_degree bases.now b.now.terms)) < 2 ^ 127 }
     ensures { IfOk result (IsGathered bases.now (greatest_degree bases.now a.now.terms + greatest_degree bases.now b.now.terms) a.now b.now) }
 {
-    let mut out = Combo::zero(alloc, bases.len());
+    let mut out = ComboBuilder::new(alloc, bases.len());
     add_products(alloc, &mut out, bases, a, b)?;
-    Ok(out)
+    Ok(out.finish())
 }
 
 // Adds the products of each term of the first combination with each term of the second.
 fn add_products(
     alloc: Global,
-    out: &mut Combo,
+    out: &mut ComboBuilder,
     bases: &Bases,
     a: &Combo,
     b: &Combo,
@@ -54,7 +54,7 @@ fn add_products(
 // Adds the products of one term with each term of the second combination.
 fn add_row(
     alloc: Global,
-    out: &mut Combo,
+    out: &mut ComboBuilder,
     bases: &Bases,
     a: &Combo,
     left: usize,
@@ -74,7 +74,7 @@ fn add_row(
 // Adds the product of a term of each combination.
 fn add_product(
     alloc: Global,
-    out: &mut Combo,
+    out: &mut ComboBuilder,
     bases: &Bases,
     a: &Combo,
     left: usize,
@@ -89,26 +89,24 @@ fn add_product(
 {
     let num = times(a.num_at(left), b.num_at(right));
     let product = product_of_keys(alloc, bases, a.key_at(left), b.key_at(right))?;
-    add_multiple(out, num, &product)
+    push_multiple(out, num, &product)
 }
 
-// Adds a multiple of a combination, both over 1, where there is room. Each term costs a search among
-// those of the first, and a new one moves the terms behind it.
-pub(crate) fn add_multiple(out: &mut Combo, num: i128, by: &Combo) -> Result<(), OutOfMemory>
+// Adds a multiple of a combination, both over 1, where there is room.
+fn push_multiple(out: &mut ComboBuilder, num: i128, by: &Combo) -> Result<(), OutOfMemory>
     requires rank { by.now.rank ≡ out.old.rank }
-    requires whole { out.old.den ≡ 1 }
     requires room { norm_of out.old.terms + unsigned_abs num * norm_of by.now.terms < 2 ^ 127 }
     ensures { OnOk result (AddsMultiple out.old num by.now.terms (length by.now.terms) out.new) }
 {
     for at in 0..by.len() {
         let multiple = times(num, by.num_at(at));
-        out.add_with_room(multiple, *by.key_at(at))?;
+        out.push(multiple, *by.key_at(at))?;
     }
     Ok(())
 }
 
 // The product of two numerators that has room.
-fn times(left: i128, right: i128) -> i128
+pub(crate) fn times(left: i128, right: i128) -> i128
     requires { unsigned_abs (left *ℤ right) < 2 ^ 127 }
     ensures { result ≡ left *ℤ right }
 {

@@ -12,6 +12,6 @@ mod products;
 mod sums;
 
 pub use laws::existence_law;
-pub use multiples::{divide, negate};
-pub use products::{tensor, times};
+pub use multiples::{divide, divided, negate, negated};
+pub use products::{tensor, times, times_by, times_onto};
 pub use sums::{add, add_to, sub, sub_from};

@@ -1,5 +1,7 @@
 //! Negation, and the quotient by a scalar.
-ghost use Rattle.std.specs.Prelude.{◌≡◌, negsuc, [], IfOk};
+ghost use Rattle.std.specs.Prelude.{◌≡◌, ◌*◌, ◌^◌, ◌<◌, negsuc, [], unsigned_abs, IfOk};
+ghost use Rattle.realisations.specs.Combinations.{IsCanonical, norm_of};
+ghost use Rattle.linear_combos.specs.Combos.{IsMultiple};
 ghost use Rattle.hopf_laws.specs.Values.{Expands, reading_of};
 ghost use Rattle.basis_routes.specs.Checks.{Tests};
 ghost use Rattle.hopf_ops.specs.Operations.{quotient_checks};
@@ -20,6 +22,28 @@ pub fn negate(alloc: Global, a: &Value) -> Result<Value, Refusal>
         a.bases().copy(),
         Combo::scale(alloc, a.combo(), &minus_one()),
     )
+}
+
+/// The value with the other sign, made of the value itself. It takes no memory. The cost is one pass.
+pub fn negated(a: Value) -> Value
+    ensures { Expands a.bases (negative (reading_of a)) result }
+{
+    let (bases, combo) = a.into_parts();
+    let combo = scaled_with_room(combo, &minus_one());
+    Value::over(bases, combo)
+}
+
+// The multiple of a combination, made of the combination itself, where it has room.
+pub(crate) fn scaled_with_room(a: Combo, by: &Fraction) -> Combo
+    requires dens { a.den * by.now.den < 2 ^ 127 }
+    requires norms { norm_of a.terms * unsigned_abs by.now.num < 2 ^ 127 }
+    ensures multiple { IsMultiple a by.now result }
+    ensures canonical { IsCanonical result.rank result.den result.terms }
+{
+    match a.scaled(by) {
+        Ok(multiple) => multiple,
+        Err(_) => unreachable!(),
+    }
 }
 
 // The fraction -1.
@@ -45,4 +69,18 @@ pub fn divide(alloc: Global, a: &Value, b: &Value) -> Result<Value, Refusal>
         a.bases().copy(),
         Combo::scale(alloc, a.combo(), &divisor.recip()),
     )
+}
+
+/// The quotient by a scalar, made of the first value. Its checks are those of `divide`. It takes no
+/// memory.
+pub fn divided(a: Value, b: &Value) -> Result<Value, Refusal>
+    ensures checks { Tests (quotient_checks a b.now) result }
+    ensures value { IfOk result (Expands a.bases (quotient (reading_of a) (reading_of b.now))) }
+{
+    let Some(divisor) = b.as_fraction() else {
+        return Err(Refusal::NotScalar);
+    };
+    Check::Nonzero { num: divisor.num() }.test()?;
+    let (bases, combo) = a.into_parts();
+    over_bases(bases, combo.scaled(&divisor.recip()))
 }

@@ -2,7 +2,7 @@
 ghost use Rattle.std.specs.Prelude.{◌≡◌, ◌+◌, ◌*◌, ◌≤◌, [], ◌++◌, length, All, IfOk};
 ghost use Rattle.realisations.specs.Readings.{product as multiply, tensor as tensor_of};
 ghost use Rattle.hopf_laws.specs.Bases.{least_limit};
-ghost use Rattle.hopf_laws.specs.Values.{Expands, reading_of, degree_of_value};
+ghost use Rattle.hopf_laws.specs.Values.{IsValue, Expands, reading_of, degree_of_value};
 ghost use Rattle.basis_routes.specs.Checks.{Passes, Tests};
 ghost use Rattle.hopf_ops.specs.Operations.{product_room, component_checks, product_checks, product_bases, tensor_checks};
 ghost use Rattle.basis_routes.specs.Joins.{joined};
@@ -10,6 +10,7 @@ ghost use Rattle.hopf_ops.specs.ReadingOperations.{product_or_tensor};
 
 use crate::common::{common_bases, den_of, over_bases};
 use crate::gather::gathered_products;
+use crate::multiples::scaled_with_room;
 use basis_routes::{Bases, Check, Refusal, Value};
 use hopf_num::Need;
 use linear_combos::Combo;
@@ -43,8 +44,8 @@ pub fn tensor(alloc: Global, a: &Value, b: &Value) -> Result<Value, Refusal>
 /// room (`TooLarge`). Else its checks are, in order: the ranks are equal (`Rank`), each two components
 /// have a join (`Mixed`), the degrees add to at most the least limit of the joins (`Degree`), and the
 /// product of the denominators and that of the norms times 2^(5n), n the sum of the degrees, have room
-/// (`TooLarge`). The cost is that of one product of basis elements for each two terms, and a search for
-/// each of its terms.
+/// (`TooLarge`). The cost is that of one product of basis elements for each two terms, and of sorting
+/// their terms.
 pub fn times(alloc: Global, a: &Value, b: &Value) -> Result<Value, Refusal>
     ensures checks { Tests (product_checks a.now b.now) result }
     ensures value { IfOk result (Expands (product_bases a.now b.now) (product_or_tensor (reading_of a.now) (reading_of b.now))) }
@@ -53,6 +54,36 @@ pub fn times(alloc: Global, a: &Value, b: &Value) -> Result<Value, Refusal>
         return tensor_over(alloc, a, b, a.bases().followed_by(b.bases()));
     }
     product_by_components(alloc, a, b)
+}
+
+/// The product, made of the first value where the second one is a scalar. Its checks are those of
+/// `times`. With a scalar it takes no memory, and the cost is one pass.
+pub fn times_by(alloc: Global, a: Value, b: &Value) -> Result<Value, Refusal>
+    ensures checks { Tests (product_checks a b.now) result }
+    ensures value { IfOk result (Expands (product_bases a b.now) (product_or_tensor (reading_of a) (reading_of b.now))) }
+{
+    let Some(factor) = b.as_fraction() else {
+        return times(alloc, &a, b);
+    };
+    test_room(&a, b, 0)?;
+    let (bases, combo) = a.into_parts();
+    let combo = scaled_with_room(combo, &factor);
+    Ok(Value::over(bases, combo))
+}
+
+/// The product, made of the second value where the first one is a scalar. Its checks are those of
+/// `times`. With a scalar it takes no memory, and the cost is one pass.
+pub fn times_onto(alloc: Global, a: &Value, b: Value) -> Result<Value, Refusal>
+    ensures checks { Tests (product_checks a.now b) result }
+    ensures value { IfOk result (Expands (product_bases a.now b) (product_or_tensor (reading_of a.now) (reading_of b))) }
+{
+    let Some(factor) = a.as_fraction() else {
+        return times(alloc, a, &b);
+    };
+    test_room(a, &b, 0)?;
+    let (bases, combo) = b.into_parts();
+    let combo = scaled_with_room(combo, &factor);
+    Ok(Value::over(bases, combo))
 }
 
 // The product component by component.
@@ -70,7 +101,9 @@ fn product_by_components(alloc: Global, a: &Value, b: &Value) -> Result<Value, R
 // Whether the product of two values, whose norm may grow by 2^shift, has room.
 fn test_room(a: &Value, b: &Value, shift: u32) -> Result<(), Refusal>
     requires { shift ≤ 120 }
-    ensures { Tests (product_room shift a.now b.now) result }
+    ensures checks { Tests (product_room shift a.now b.now) result }
+    ensures left { IsValue a.now }
+    ensures right { IsValue b.now }
 {
     Check::Room {
         need: Need::Denominator {

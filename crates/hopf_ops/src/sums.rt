@@ -1,5 +1,5 @@
 //! Sums and differences.
-ghost use Rattle.std.specs.Prelude.{◌≡◌, ℕ, ◌*◌, ◌^◌, ◌<◌, pos, neg_ℤ, if◌then◌else◌, IfOk};
+ghost use Rattle.std.specs.Prelude.{◌≡◌, ℕ, ◌+◌, ◌*◌, ◌^◌, ◌<◌, pos, neg_ℤ, if◌then◌else◌, length, unsigned_abs, IfOk, OnOk};
 ghost use Rattle.std.specs.Int.{◌∣◌};
 ghost use Rattle.hopf_num.specs.Divisors.{IsLcm};
 ghost use Rattle.hopf_num.specs.Room.{sum_rule};
@@ -10,13 +10,14 @@ ghost use Rattle.hopf_laws.specs.Values.{Expands, reading_of};
 ghost use Rattle.basis_routes.specs.Checks.{Tests};
 ghost use Rattle.basis_routes.specs.Joins.{joined};
 ghost use Rattle.hopf_ops.specs.Answers.{IsSumOrDifference};
+ghost use Rattle.hopf_ops.specs.Gathering.{AddsMultiple};
 ghost use Rattle.hopf_ops.specs.Operations.{sum_checks};
 ghost use Rattle.hopf_ops.specs.ReadingOperations.{difference, sum_or_difference};
 
 use crate::common::{common_bases, common_bases_of_sum, den_of, over_bases};
-use crate::gather::add_multiple;
+use crate::gather::times;
 use basis_routes::{Refusal, Value};
-use hopf_num::Need;
+use hopf_num::{Need, OutOfMemory};
 use linear_combos::{Combo, ComboFault};
 use std::alloc::Global;
 
@@ -113,6 +114,21 @@ fn with_terms_of(a: Combo, b: &Combo, factor: u128, minus: bool) -> Result<Combo
         return Err(ComboFault::Memory);
     }
     Ok(sum.over(den))
+}
+
+// Adds a multiple of a combination, both over 1, where there is room. Each term costs a search among
+// those of the first, and a new one moves the terms behind it.
+fn add_multiple(out: &mut Combo, num: i128, by: &Combo) -> Result<(), OutOfMemory>
+    requires rank { by.now.rank ≡ out.old.rank }
+    requires whole { out.old.den ≡ 1 }
+    requires room { norm_of out.old.terms + unsigned_abs num * norm_of by.now.terms < 2 ^ 127 }
+    ensures { OnOk result (AddsMultiple out.old num by.now.terms (length by.now.terms) out.new) }
+{
+    for at in 0..by.len() {
+        let multiple = times(num, by.num_at(at));
+        out.add_with_room(multiple, *by.key_at(at))?;
+    }
+    Ok(())
 }
 
 // A factor, or else its negation.

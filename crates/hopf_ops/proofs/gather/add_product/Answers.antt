@@ -18,8 +18,8 @@ pub product_of_keys-requires-clause-keys : goal.product_of_keys-requires-clause-
 product_of_keys-requires-clause-keys c =
     rw (c.key_at.ensures, c.key_at-2.ensures) (factor_keys c.args.bases.now c.args.a.now c.args.b.now c.requires.factors c.args.left c.args.right c.requires.in_left c.requires.in_right)
 
-pub add_multiple-requires-clause-room : goal.add_multiple-requires-clause-room
-add_multiple-requires-clause-room c =
+pub push_multiple-requires-clause-room : goal.push_multiple-requires-clause-room
+push_multiple-requires-clause-room c =
     let left = to_z-of_z w128 c.num_at.result (record { sfits = c.num_at.type_inv }) ∙ c.num_at.ensures.value in
     let right = to_z-of_z w128 c.num_at-2.result (record { sfits = c.num_at-2.type_inv }) ∙ c.num_at-2.ensures.value in
     let num = to_z-of_z w128 c.times-num.result (record { sfits = c.times-num.type_inv }) ∙ c.times-num.ensures ∙ (λ i. left i *ℤ right i) in
@@ -36,5 +36,5 @@ returns c =
     rw (c.key_at.ensures, c.key_at-2.ensures) at c.in_ok-product.ensures in
     on_ok_weaker _
     (λ adds. product_gathered c.args.bases.now c.args.a.now c.args.b.now c.requires.factors c.args.left c.args.right c.requires.in_left c.requires.in_right c.args.out.now c.requires.gathered _ is
-    c.add_multiple.new.out (rw num at adds))
-    c.add_multiple.ensures
+    c.push_multiple.new.out (rw num at adds))
+    c.push_multiple.ensures

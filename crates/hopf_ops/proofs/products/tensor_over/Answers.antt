@@ -38,4 +38,4 @@ returns-clause-value c =
     let is : IfOk c.tensor.result (IsTensor a.combination b.combination) = rw (← c.combo.ensures.combination, ← c.combo-2.ensures.combination) c.tensor.ensures.tensor in
     answer_expands (IsTensor a.combination b.combination) (a.bases ++ b.bases) (tensor (reading_of a) (reading_of b)) c.tensor.result c.over_bases.result
     (subst (λ bases. IsAnswerOver bases c.tensor.result c.over_bases.result) c.requires.bases c.over_bases.ensures.answer) is c.over_bases.ensures.value
-    (λ t h ps points. tensor_reads a b t c.combo.ensures.value h ps points)
+    (λ t h ps points. tensor_reads a b t c.combo.ensures.value h.weighs ps points)

@@ -7,8 +7,8 @@ use Rattle.basis_routes.specs.Checks.{Passes, Tests}
 use Rattle.basis_routes.proofs.Rows.{tests_back}
 use Rattle.hopf_ops.proofs.products.test_room.Goals as goal
 
-pub returns : goal.returns
-returns c =
+pub returns-clause-checks : goal.returns-clause-checks
+returns-clause-checks c =
     let a = c.args.a.now.combination in
     let b = c.args.b.now.combination in
     let first = Room (Denominator a.den b.den) ∷ [] in

@@ -4,7 +4,7 @@ use Rattle.std.proofs.lemmas.Int.{to_z-of_z}
 use Rattle.hopf_ops.specs.Gathering.{AddsMultiple}
 use Rattle.hopf_ops.proofs.Gathering.{adds_none, multiple_room, multiple_more}
 use mir.Syntax.{w128}
-use Rattle.hopf_ops.proofs.gather.add_multiple.Goals as goal
+use Rattle.hopf_ops.proofs.gather.push_multiple.Goals as goal
 
 pub loop-at-init : goal.loop-at-init
 loop-at-init c = adds_none _ _ _
@@ -17,16 +17,13 @@ times-multiple-requires c =
     let so_far = subst (λ n. AddsMultiple c.args.out.now n c.args.by.now.terms c.loop-at.at c.loop-at.out) num c.loop-at.invariant in
     rw (num, other) (omega (arith, multiple_room c.args.out.now c.args.num c.args.by.now.terms c.loop-at.at c.loop-at.out so_far here c.requires.room))
 
-pub add_with_room-requires-clause-rank : goal.add_with_room-requires-clause-rank
-add_with_room-requires-clause-rank c =
+pub push-requires-clause-rank : goal.push-requires-clause-rank
+push-requires-clause-rank c =
     let here : c.loop-at.at < length c.args.by.now.terms = omega (arith, c.len-at-end.ensures.value, c.loop-at-test.true) in
     ap (λ k. length k) (c.key_at.ensures) ∙ c.len-at-end.ensures.canonical.ordered.ranks c.loop-at.at here ∙ c.requires.rank ∙ sym c.loop-at.invariant.rank
 
-pub add_with_room-requires-clause-whole : goal.add_with_room-requires-clause-whole
-add_with_room-requires-clause-whole c = c.loop-at.invariant.den ∙ c.requires.whole
-
-pub add_with_room-requires-clause-room : goal.add_with_room-requires-clause-room
-add_with_room-requires-clause-room c =
+pub push-requires-clause-room : goal.push-requires-clause-room
+push-requires-clause-room c =
     let here : c.loop-at.at < length c.args.by.now.terms = omega (arith, c.len-at-end.ensures.value, c.loop-at-test.true) in
     let num = to_z-of_z w128 c.args.num c.ranges.num in
     let other = to_z-of_z w128 c.num_at.result (record { sfits = c.num_at.type_inv }) ∙ c.num_at.ensures.value in
@@ -40,8 +37,8 @@ loop-at-preserved c =
     let other = to_z-of_z w128 c.num_at.result (record { sfits = c.num_at.type_inv }) ∙ c.num_at.ensures.value in
     let product = to_z-of_z w128 c.times-multiple.result (record { sfits = c.times-multiple.type_inv }) ∙ c.times-multiple.ensures ∙ ap (λ z. to_z w128 (of_z w128 c.args.num) *ℤ z) other in
     multiple_more c.args.out.now (to_z w128 (of_z w128 c.args.num)) c.args.by.now.terms c.loop-at.at c.loop-at.out c.loop-at.invariant here
-    c.add_with_room.new.self _ c.key_at.result.now product (c.key_at.ensures)
-    c.in_ok-add_with_room.ensures.same_rank c.in_ok-add_with_room.ensures.same_den c.in_ok-add_with_room.ensures.adds c.in_ok-add_with_room.ensures.norm
+    c.push.new.self _ c.key_at.result.now product (c.key_at.ensures)
+    c.in_ok-push.ensures.same_rank c.in_ok-push.ensures.same_den c.in_ok-push.ensures.adds c.in_ok-push.ensures.norm
 
 pub returns : goal.returns
 returns c =

@@ -1,5 +1,5 @@
 use Rattle.hopf_ops.specs.Gathering.{AddsMultiple}
-use Rattle.hopf_ops.proofs.gather.add_multiple.Given as goal
+use Rattle.hopf_ops.proofs.gather.push_multiple.Given as goal
 
 abbrev pub invariant-loop-at : goal.invariant-loop-at
 invariant-loop-at l = AddsMultiple l.initial.out l.num l.by.terms l.at l.out
