@@ -1,0 +1,4 @@
+pub mod CutWords
+pub mod GrownWords
+pub mod MergedCodes
+pub mod PackedCodes

@@ -1,0 +1,3 @@
+pub mod Evaluations
+pub mod Interleaving
+pub mod Sizes

@@ -1,0 +1,4 @@
+pub mod AddedCodes
+pub mod Laws
+pub mod Merges
+pub mod Spreads
