@@ -1,0 +1,14 @@
+pub mod Columns
+pub mod KnuthChains
+pub mod KnuthClasses
+pub mod KnuthIntervals
+pub mod KnuthMoves
+pub mod KnuthRows
+pub mod LatticeColumns
+pub mod LatticeSteps
+pub mod LatticeWords
+pub mod Leads
+pub mod NumberedInsertion
+pub mod NumberedRows
+pub mod NumberedTableaux
+pub mod StandardIntervals

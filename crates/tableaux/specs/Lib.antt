@@ -1,0 +1,2 @@
+pub mod NumberedTableaux
+pub mod Sizes
