@@ -6,7 +6,7 @@ use Rattle.std.proofs.Math.IntN.{ℤ, pos, negsuc, ◌*ℤ◌}
 use Rattle.std.proofs.Math.Nat.{mul-pos}
 use Rattle.std.proofs.lemmas.Int.{ints}
 use Rattle.std.proofs.lemmas.List.Elements.{All-tail}
-use Rattle.std.proofs.lemmas.List.{length-map, length-append, length-take, length-drop, map-append}
+use Rattle.std.proofs.lemmas.List.{map-append}
 use Rattle.hopf_num.specs.Fractions.{Ratio, reciprocal}
 use Rattle.hopf_num.proofs.Reciprocals.{reciprocal_agrees, ratio_nonzero}
 use Rattle.realisations.specs.Points.{Kind, ArePoints}

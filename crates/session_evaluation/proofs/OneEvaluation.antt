@@ -1,5 +1,5 @@
 -- An expression comes to one answer.
-use Rattle.std.proofs.Common.{◌≡◌, ◌≢◌, ℕ, zero, suc, ◌≤◌, inl, inr, ℤ, pos, negsuc, unsigned_abs, Bool, true, false, if◌then◌else◌, Some, None, Ok, Err, List, [], ◌∷◌, All, length, refl, sym, ◌∙◌, ap, subst, arith}
+use Rattle.std.proofs.Common.{◌≡◌, ◌≢◌, ℕ, zero, suc, ◌≤◌, inl, inr, ℤ, pos, negsuc, unsigned_abs, Bool, true, false, if◌then◌else◌, Some, None, Ok, Err, List, [], ◌∷◌, All, refl, sym, ◌∙◌, ap, subst, arith}
 use Rattle.std.proofs.Math.Nat.{mul-pos}
 use Rattle.hopf_num.proofs.RoomOfSums.{same_lcm}
 use Rattle.realisations.specs.Readings.{Reading, denominator, product, tensor}

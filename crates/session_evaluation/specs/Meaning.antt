@@ -1,10 +1,9 @@
 -- What an expression means: a reading, whatever bases its parts were entered in.
-use Rattle.std.specs.Prelude.{◌≡◌, ◌≤◌, ℕ, pos, negsuc, Bool, List, [], ◌∷◌, ◌||◌, Some, length, map, nat_eq, if◌then◌else◌}
-use Rattle.hopf_num.specs.Fractions.{Ratio, reciprocal}
+use Rattle.std.specs.Prelude.{◌≡◌, ◌≤◌, ℕ, pos, Bool, List, [], ◌∷◌, Some, map, if◌then◌else◌}
 use Rattle.realisations.specs.Codes.{Code}
 use Rattle.realisations.specs.Bases.{kind_of}
 use Rattle.realisations.specs.Points.{ArePoints, Points}
-use Rattle.realisations.specs.Readings.{Reading, leaf, element, product, tensor, sum_of, multiple, kinds_of, numerator, denominator, AgreeAt}
+use Rattle.realisations.specs.Readings.{Reading, leaf, element, denominator, AgreeAt}
 use Rattle.basis_names.specs.declared.bases.BasisId.{BasisId}
 use Rattle.session_tokens.specs.declared.lexeme.Lexeme.{Lexeme}
 use Rattle.session_evaluation.specs.Elements.{Spells}
@@ -13,7 +12,6 @@ use Rattle.session_grammar.specs.declared.expression.Expr.{Expr}
 use Rattle.session_grammar.specs.declared.expression.Factor.{Factor}
 use Rattle.session_grammar.specs.declared.expression.Signed.{Signed}
 use Rattle.session_evaluation.specs.declared.operator.Operator.{Operator}
-use Rattle.session_evaluation.specs.declared.operator.Operator.TheVariants.{Plus, Minus, Hash, Times, Over}
 use Rattle.session_evaluation.specs.Names.{Names, value_of}
 use Rattle.session_evaluation.specs.Evaluation.{Steps, steps_of_sum, steps_of_tensor, steps_of_product}
 use Rattle.session_grammar.specs.declared.expression.Expr.TheVariants as e

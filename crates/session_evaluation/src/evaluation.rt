@@ -7,7 +7,7 @@ use crate::elements::value_of_element;
 use crate::{EvaluationRefusal, Names, Operator};
 use basis_routes::{Refusal, Value};
 use hopf_num::OutOfMemory;
-use hopf_ops::{add_to, divide, negate, sub_from, tensor, times};
+use hopf_ops::{add_to, divided, negated, sub_from, tensor, times_by, times_onto};
 use linear_combos::{Combo, Key};
 use session_grammar::{Expr, Factor, Signed};
 use session_tokens::Name;
@@ -57,7 +57,7 @@ fn value_of_name(alloc: Global, names: &Names, name: &Name) -> Result<Value, Eva
     }
 }
 
-// One operation on two values. A sum is made of the first one.
+// One operation on two values. Sums, multiples and quotients are made of the first one.
 fn operate(
     alloc: Global,
     operator: Operator,
@@ -70,20 +70,31 @@ fn operate(
         Operator::Plus => add_to(alloc, a, b),
         Operator::Minus => sub_from(alloc, a, b),
         Operator::Hash => tensor(alloc, &a, b),
-        Operator::Times => times(alloc, &a, b),
-        Operator::Over => divide(alloc, &a, b),
+        Operator::Times => times_by(alloc, a, b),
+        Operator::Over => divided(a, b),
     })
 }
 
-// The first operand of a sum, with its sign.
-fn with_sign(alloc: Global, minus: bool, a: Value) -> Result<Value, EvaluationRefusal>
-    ensures { OrMemory (Signs minus (Ok a)) result }
+// The same with a second value that may be changed: a multiple of it is made of it.
+fn operate_on(
+    alloc: Global,
+    operator: Operator,
+    a: Value,
+    b: Value,
+) -> Result<Value, EvaluationRefusal>
+    ensures { OrMemory (Operates operator a b) result }
 {
-    if minus {
-        told_of(negate(alloc, &a))
-    } else {
-        Ok(a)
+    if operator == Operator::Times && a.rank() == 0 {
+        return told_of(times_onto(alloc, &a, b));
     }
+    operate(alloc, operator, a, &b)
+}
+
+// The first operand of a sum, with its sign. It takes no memory.
+fn with_sign(minus: bool, a: Value) -> Value
+    ensures { Signs minus (Ok a) (Ok result) }
+{
+    if minus { negated(a) } else { a }
 }
 
 // The operation with an operand that is evaluated now. The value of a name is not copied.
@@ -105,7 +116,7 @@ fn apply(
         };
     }
     let b = value_of(alloc, names, x)?;
-    operate(alloc, operator, a, &b)
+    operate_on(alloc, operator, a, b)
 }
 
 // The first part of a sum, with its sign.
@@ -115,7 +126,7 @@ fn first_of_sum(alloc: Global, names: &Names, part: &Signed) -> Result<Value, Ev
     ensures { OrMemory (Begins names.now part.now) result }
 {
     let value = value_of(alloc, names, &part.value)?;
-    with_sign(alloc, part.minus, value)
+    Ok(with_sign(part.minus, value))
 }
 
 // A sum with one more part.

@@ -1,4 +1,4 @@
-use Rattle.std.proofs.Common.{◌≡◌, Some, sym, ◌∙◌, rules}
+use Rattle.std.proofs.Common.{rules}
 use Rattle.session_evaluation.specs.Elements.{Spells}
 use Rattle.session_evaluation.proofs.SpelledElements.{spelled_within}
 use Rattle.session_evaluation.proofs.elements.value_of_element.Goals as goal

@@ -12,6 +12,6 @@ returns c =
       | in-Plus w ↦ operated_as c.args.operator Plus a b least.0 c.told_of.result c.match-operator.told_of w.add_to.result w.in-Plus.is c.told_of.ensures w.told_of-is least.1 (w.add_to.ensures.checks least.0 least.1) w.add_to.ensures.value
       | in-Minus w ↦ operated_as c.args.operator Minus a b least.0 c.told_of.result c.match-operator.told_of w.sub_from.result w.in-Minus.is c.told_of.ensures w.told_of-is least.1 (w.sub_from.ensures.checks least.0 least.1) w.sub_from.ensures.value
       | in-Hash w ↦ operated_as c.args.operator Hash a b least.0 c.told_of.result c.match-operator.told_of w.tensor.result w.in-Hash.is c.told_of.ensures w.told_of-is least.1 w.tensor.ensures.checks w.tensor.ensures.value
-      | in-Times w ↦ operated_as c.args.operator Times a b least.0 c.told_of.result c.match-operator.told_of w.times.result w.in-Times.is c.told_of.ensures w.told_of-is least.1 w.times.ensures.checks w.times.ensures.value
-      | in-Over w ↦ operated_as c.args.operator Over a b least.0 c.told_of.result c.match-operator.told_of w.divide.result w.in-Over.is c.told_of.ensures w.told_of-is least.1 w.divide.ensures.checks w.divide.ensures.value
+      | in-Times w ↦ operated_as c.args.operator Times a b least.0 c.told_of.result c.match-operator.told_of w.times_by.result w.in-Times.is c.told_of.ensures w.told_of-is least.1 w.times_by.ensures.checks w.times_by.ensures.value
+      | in-Over w ↦ operated_as c.args.operator Over a b least.0 c.told_of.result c.match-operator.told_of w.divided.result w.in-Over.is c.told_of.ensures w.told_of-is least.1 w.divided.ensures.checks w.divided.ensures.value
     ]
