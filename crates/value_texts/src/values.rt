@@ -1,6 +1,7 @@
 //! Prints values.
-ghost use Rattle.std.specs.Prelude.{◌≡◌, ◌++◌, ◌<◌, length, drop, OnOk, OnErr, IfOk};
-ghost use Rattle.hopf_num.specs.Fractions.{fraction_text};
+ghost use Rattle.std.specs.Prelude.{◌≡◌, ◌++◌, ◌<◌, length, drop, unsigned_abs, OnOk, OnErr, IfOk};
+ghost use Rattle.std.specs.Fmt.{decimal};
+ghost use Rattle.hopf_num.specs.Fractions.{fraction_text, over_text};
 ghost use Rattle.realisations.specs.Combinations.{term_at};
 ghost use Rattle.value_texts.specs.Text.{key_text, coefficient_text, term_text, first_sign, later_sign, IsCoefficient, IsTextOf, AppendsText};
 
@@ -76,27 +77,29 @@ fn append_term(
     requires { place < length value.now.combination.terms }
     ensures { OnOk result (out.new ≡ out.old ++ term_text value.now.bases coefficient.now ((term_at value.now.combination.terms place).1)) }
 {
-    append_coefficient(alloc, coefficient, out)?;
+    append_coefficient(coefficient, out)?;
     append_key(alloc, value.bases(), value.combo().key_at(place), out)
 }
 
 // Appends an absolute coefficient and `*`, or nothing where it is 1.
-fn append_coefficient(
-    alloc: Global,
-    coefficient: &Fraction,
-    out: &mut Bytes,
-) -> Result<(), OutOfMemory>
+fn append_coefficient(coefficient: &Fraction, out: &mut Bytes) -> Result<(), OutOfMemory>
     ensures { OnOk result (out.new ≡ out.old ++ coefficient_text coefficient.now) }
 {
-    let size = coefficient.num().unsigned_abs();
-    let den = coefficient.den() as u128;
-    if size == 1 && den == 1 {
+    if coefficient.num().unsigned_abs() == 1 && coefficient.den() == 1 {
         return Ok(());
     }
-    if den == 1 {
-        return out.push_all(format!(in alloc; "{size}*")?.as_bytes());
-    }
-    out.push_all(format!(in alloc; "{size}/{den}*")?.as_bytes())
+    append_absolute(coefficient, out)?;
+    out.push_all(b"*")
+}
+
+// Appends a number without its sign.
+fn append_absolute(number: &Fraction, out: &mut Bytes) -> Result<(), OutOfMemory>
+    ensures { OnOk result (out.new ≡ out.old ++ (decimal (unsigned_abs number.now.num) ++ over_text number.now.den)) }
+{
+    let mut digits = [0; 80];
+    let end = number.write(&mut digits);
+    let start = if number.num() < 0 { 1 } else { 0 };
+    out.push_all(&digits[start..end])
 }
 
 // Appends the basis elements of a key, with ` # ` between.
