@@ -1,5 +1,5 @@
 -- What a text is: the statement of the grammar, or what is refused in it first.
-use Rattle.std.specs.Prelude.{◌≡◌, ℕ, ◌+◌, ◌≤◌, true, false, List, [], ◌∷◌, ◌++◌, Option, Some, None, Result, Ok, Err, length, take, slice_get}
+use Rattle.std.specs.Prelude.{◌≡◌, ℕ, ◌+◌, true, false, List, ◌∷◌, Option, Some, None, Result, Ok, Err, slice_get}
 use Rattle.session_grammar.specs.declared.expression.Statement.{Statement}
 use Rattle.session_reading.specs.declared.fault.GrammarFault.{GrammarFault}
 use Rattle.session_tokens.specs.declared.lexeme.Lexeme.{Lexeme}

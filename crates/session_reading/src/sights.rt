@@ -64,8 +64,13 @@ impl Sights {
         ensures unbuilt { self.new.unbuilt ≡ first_found self.old.unbuilt (begins_with_unbuilt rest.now) place }
         ensures bad_list { self.new.bad_list ≡ first_found self.old.bad_list (begins_with_bad_list rest.now) place }
     {
-        self.large_number = found_or(self.large_number, is_large(rest), place);
+        if let [Lexeme::Number(_), ..] = rest {
+            self.large_number = found_or(self.large_number, is_large(rest), place);
+            return;
+        }
         self.unbuilt = found_or(self.unbuilt, begins_unbuilt(rest), place);
-        self.bad_list = found_or(self.bad_list, begins_bad_list(rest), place);
+        if let [Lexeme::Basis(_), ..] = rest {
+            self.bad_list = found_or(self.bad_list, begins_bad_list(rest), place);
+        }
     }
 }
