@@ -1,0 +1,13 @@
+pub mod AddedElements
+pub mod AddingElements
+pub mod ConcatenationRules
+pub mod ElementProducts
+pub mod GatheredElements
+pub mod MultiplicativeBases
+pub mod OneCut
+pub mod PartialSums
+pub mod Parts
+pub mod RibbonRule
+pub mod Ribbons
+pub mod Tests
+pub mod Units

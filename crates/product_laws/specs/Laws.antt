@@ -1,0 +1,37 @@
+-- Laws of products, by rules on indices. Public functions with empty bodies ensure them (`src/laws.rt`).
+use Rattle.std.specs.Prelude.{◌≡◌, ℕ, ◌+◌, ◌≤◌, List, [], ◌∷◌, ◌++◌, length}
+use Rattle.basis_names.specs.declared.bases.BasisId.{BasisId}
+use Rattle.basis_names.specs.declared.bases.BasisId.TheVariants.{NcsfL, NcsfR, NcsfS}
+use Rattle.realisations.specs.Answers.{IsAnswer}
+use Rattle.realisations.specs.Codes.{Code}
+use Rattle.realisations.specs.Combinations.{Combination, IsCanonical, norm_of}
+use Rattle.realisations.specs.Indices.{IsIndex, degree_of}
+use Rattle.realisations.specs.Readings.{element, product}
+use Rattle.product_laws.specs.AddedElements.{AddsElements}
+use Rattle.product_laws.specs.Products.{IsProductRule}
+use Rattle.product_laws.specs.Ribbons.{ribbon_products}
+
+-- R of I times R of J is R of I . J and R of I > J (Gelfand, Krob, Lascoux, Leclerc, Retakh, Thibon 1995)
+abbrev pub RibbonLaw : Type 0
+RibbonLaw = (i j : Code) → IsIndex NcsfR i → IsIndex NcsfR j → IsProductRule NcsfR i j (ribbon_products i j)
+
+-- S of I times S of J is S of I . J, and so with L (the same)
+pub record ConcatenationLaw : Type 0 where
+  pub complete : (i j : Code) → IsIndex NcsfS i → IsIndex NcsfS j → IsProductRule NcsfS i j ((i ++ j) ∷ [])
+  pub elementary : (i j : Code) → IsIndex NcsfL i → IsIndex NcsfL j → IsProductRule NcsfL i j ((i ++ j) ∷ [])
+
+-- a combination is the answer of the product of two elements
+abbrev pub IsProductAnswer : BasisId → Code → Code → Combination → Type 0
+IsProductAnswer basis left right c =
+    IsAnswer (basis ∷ []) (degree_of basis left + degree_of basis right) (product (element basis left) (element basis right)) c
+
+-- a canonical combination of rank 1 over 1, to which the codes of a product rule were added, each once, and whose norm is at most their number, is the answer
+abbrev pub AnswerLaw : Type 0
+AnswerLaw = (basis : BasisId) (left right : Code) (codes : List Code) (c : Combination) → IsProductRule basis left right codes →
+    IsCanonical c.rank c.den c.terms → c.rank ≡ 1 → c.den ≡ 1 → norm_of c.terms ≤ length codes → AddsElements [] c.terms codes →
+    IsProductAnswer basis left right c
+
+-- a product rule of degree at most 25 has a combination that is its answer, whatever memory there is
+abbrev pub GatheringLaw : Type 0
+GatheringLaw = (basis : BasisId) (left right : Code) (codes : List Code) → IsProductRule basis left right codes →
+    degree_of basis left + degree_of basis right ≤ 25 → (c : Combination) × IsProductAnswer basis left right c

@@ -1,0 +1,4 @@
+pub mod AddedElements
+pub mod Laws
+pub mod Products
+pub mod Ribbons

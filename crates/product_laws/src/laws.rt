@@ -1,0 +1,35 @@
+//! Laws of products. A function here computes nothing: callers cite its clause.
+ghost use Rattle.product_laws.specs.Laws.{RibbonLaw, ConcatenationLaw, AnswerLaw, GatheringLaw};
+
+/// The product of two ribbons is the ribbon of the concatenation of their compositions and that of the
+/// near concatenation, which joins the last part of the first and the first part of the second into
+/// their sum (Gelfand, Krob, Lascoux, Leclerc, Retakh, Thibon 1995).
+///
+/// Nothing is computed: callers cite the clause.
+pub fn ribbon_law()
+    ensures { RibbonLaw }
+{}
+
+/// Complete functions multiply by concatenation of their compositions, and so do elementary functions
+/// (Gelfand, Krob, Lascoux, Leclerc, Retakh, Thibon 1995).
+///
+/// Nothing is computed: callers cite the clause.
+pub fn concatenation_law()
+    ensures { ConcatenationLaw }
+{}
+
+/// A combination to which the codes of a product rule were added, each once, is the answer of the
+/// product, if it is canonical of rank 1 over 1 and its norm is at most their number.
+///
+/// Nothing is computed: callers cite the clause.
+pub fn answer_law()
+    ensures { AnswerLaw }
+{}
+
+/// A product rule of degree at most 25 has a combination that is its answer, so a contract that speaks
+/// of it is not empty.
+///
+/// Nothing is computed: callers cite the clause.
+pub fn gathering_law()
+    ensures { GatheringLaw }
+{}

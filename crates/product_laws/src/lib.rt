@@ -1,0 +1,9 @@
+//! Products of basis elements, by rules on indices.
+//!
+//! Each rule lists indices; its law says that their elements read as the product at all points, and
+//! bounds them.
+#![tactic(auto)]
+
+mod laws;
+
+pub use laws::{answer_law, concatenation_law, gathering_law, ribbon_law};
