@@ -1,10 +1,13 @@
 pub mod AddedElements
 pub mod AddingElements
+pub mod ClassProducts
 pub mod ConcatenationRules
 pub mod ElementProducts
 pub mod GatheredElements
+pub mod ListedOnce
 pub mod MultiplicativeBases
 pub mod OneCut
+pub mod OrderOfParts
 pub mod PartialSums
 pub mod Parts
 pub mod RibbonRule

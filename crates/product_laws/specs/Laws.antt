@@ -6,10 +6,21 @@ use Rattle.realisations.specs.Answers.{IsAnswer}
 use Rattle.realisations.specs.Codes.{Code}
 use Rattle.realisations.specs.Combinations.{Combination, IsCanonical, norm_of}
 use Rattle.realisations.specs.Indices.{IsIndex, degree_of}
+use Rattle.realisations.specs.Lists.{one_if}
+use Rattle.realisations.specs.Points.{Point}
 use Rattle.realisations.specs.Readings.{element, product}
+use Rattle.word_laws.specs.AddedCodes.{times_in}
 use Rattle.product_laws.specs.AddedElements.{AddsElements}
-use Rattle.product_laws.specs.Products.{IsProductRule}
+use Rattle.product_laws.specs.Classes.{IsByClasses, splits_into}
+use Rattle.product_laws.specs.Products.{IsProduct, IsProductRule}
 use Rattle.product_laws.specs.Ribbons.{ribbon_products}
+
+-- over a class basis of words, codes that hold each index once where its front and its back are those of two factors, and else not, read as the product
+abbrev pub ClassLaw : Type 0
+ClassLaw = (basis : BasisId) (class_of : Point → Code) (front back : ℕ → Code → Code) → IsByClasses basis class_of front back →
+    (left right : Code) (codes : List Code) →
+    ((code : Code) → IsIndex basis code → times_in code codes ≡ one_if (splits_into front back (degree_of basis left) left right code)) →
+    IsProduct basis left right codes
 
 -- R of I times R of J is R of I . J and R of I > J (Gelfand, Krob, Lascoux, Leclerc, Retakh, Thibon 1995)
 abbrev pub RibbonLaw : Type 0

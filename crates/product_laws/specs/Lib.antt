@@ -1,4 +1,5 @@
 pub mod AddedElements
+pub mod Classes
 pub mod Laws
 pub mod Products
 pub mod Ribbons

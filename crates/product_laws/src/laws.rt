@@ -1,5 +1,13 @@
 //! Laws of products. A function here computes nothing: callers cite its clause.
-ghost use Rattle.product_laws.specs.Laws.{RibbonLaw, ConcatenationLaw, AnswerLaw, GatheringLaw};
+ghost use Rattle.product_laws.specs.Laws.{ClassLaw, RibbonLaw, ConcatenationLaw, AnswerLaw, GatheringLaw};
+
+/// Over a class basis of words, the product of two elements is the sum over the indices whose front and
+/// back are those of the factors.
+///
+/// Nothing is computed: callers cite the clause.
+pub fn class_law()
+    ensures { ClassLaw }
+{}
 
 /// The product of two ribbons is the ribbon of the concatenation of their compositions and that of the
 /// near concatenation, which joins the last part of the first and the first part of the second into

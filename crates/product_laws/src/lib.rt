@@ -6,4 +6,4 @@
 
 mod laws;
 
-pub use laws::{answer_law, concatenation_law, gathering_law, ribbon_law};
+pub use laws::{answer_law, class_law, concatenation_law, gathering_law, ribbon_law};
