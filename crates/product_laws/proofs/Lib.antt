@@ -2,6 +2,8 @@ pub mod AddedElements
 pub mod AddingElements
 pub mod ClassProducts
 pub mod ConcatenationRules
+pub mod CutRules
+pub mod DistinctWords
 pub mod ElementProducts
 pub mod GatheredElements
 pub mod ListedOnce

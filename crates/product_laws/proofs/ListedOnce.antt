@@ -1,10 +1,11 @@
 -- A list in canonical order of the codes with a property holds each of them once.
-use Rattle.std.proofs.Common.{◌≡◌, ℕ, zero, suc, ◌+◌, ◌<◌, ◌≤◌, Bool, true, false, List, [], ◌∷◌, length, get_or, refl, sym, ◌∙◌, ap, arith}
+use Rattle.std.proofs.Common.{◌≡◌, ℕ, zero, suc, ◌+◌, ◌<◌, ◌≤◌, Bool, true, false, List, [], ◌∷◌, length, get_or, refl, sym, ◌∙◌, ap, arith, inl, inr}
 use Rattle.std.specs.List.{AllByRecursion}
 use Rattle.std.specs.Ordering.{nat_cmp, ordering_reverse}
 use Rattle.std.specs.declared.cmp.Ordering.{Ordering}
 use Rattle.std.specs.declared.cmp.Ordering.TheVariants.{Less, Equal, Greater}
 use Rattle.std.specs.Cmp.Lexicographic.{slice_cmp}
+use Rattle.std.proofs.lemmas.Bool.{cases_lt}
 use Rattle.std.proofs.lemmas.Cmp.{nat_list_cmp_total}
 use Rattle.realisations.specs.Codes.{Code}
 use Rattle.realisations.specs.Lists.{same_list, one_if}
@@ -47,6 +48,22 @@ times_in-once code (c ∷ codes) ordered (suc i, lt, is) =
     by_test true e rest =
         absurd (not_before_itself c (ap (slice_cmp nat_cmp c) (sym (same_list-true code c e) ∙ sym is) ∙ ordered 0 (suc i) (omega arith) lt))
     by_test false e rest = omega (arith, ap one_if e, rest)
+
+-- a code that is counted is listed
+listed : (code : Code) (codes : List Code) → 1 ≤ times_in code codes → IsListed code codes
+listed code [] some = absurd (omega (arith, some))
+listed code (c ∷ codes) some = by_test (same_list code c) refl (λ k. listed code codes k)
+  where
+    by_test : (b : Bool) → same_list code c ≡ b → (1 ≤ times_in code codes → IsListed code codes) → IsListed code (c ∷ codes)
+    by_test true e rest = (0, omega arith, sym (same_list-true code c e))
+    by_test false e rest = let there = rest (omega (arith, some, ap one_if e)) in (suc there.0, omega (arith, there.1), there.2)
+
+-- in canonical order no code is there twice
+pub times_in-at_most : (codes : List Code) → IsInOrder codes → (code : Code) → times_in code codes ≤ 1
+times_in-at_most codes ordered code = elim (cases_lt 0 (times_in code codes)) [
+  | inl some ↦ omega (arith, times_in-once code codes ordered (listed code codes some))
+  | inr none ↦ omega (arith, none)
+]
 
 -- a list of the codes with a property holds a code once if a test says that it has the property, and else not
 pub times_in-listed : (P : Code → Type 0) (codes : List Code) → ListsEach P codes → (code : Code) (test : Bool) → (P code → test ≡ true) → (test ≡ true → P code)

@@ -1,7 +1,7 @@
 -- Laws of products, by rules on indices. Public functions with empty bodies ensure them (`src/laws.rt`).
 use Rattle.std.specs.Prelude.{◌≡◌, ℕ, ◌+◌, ◌≤◌, List, [], ◌∷◌, ◌++◌, length}
 use Rattle.basis_names.specs.declared.bases.BasisId.{BasisId}
-use Rattle.basis_names.specs.declared.bases.BasisId.TheVariants.{NcsfL, NcsfR, NcsfS}
+use Rattle.basis_names.specs.declared.bases.BasisId.TheVariants.{FqsymG, NcsfL, NcsfR, NcsfS, WqsymM}
 use Rattle.realisations.specs.Answers.{IsAnswer}
 use Rattle.realisations.specs.Codes.{Code}
 use Rattle.realisations.specs.Combinations.{Combination, IsCanonical, norm_of}
@@ -9,7 +9,9 @@ use Rattle.realisations.specs.Indices.{IsIndex, degree_of}
 use Rattle.realisations.specs.Lists.{one_if}
 use Rattle.realisations.specs.Points.{Point}
 use Rattle.realisations.specs.Readings.{element, product}
+use Rattle.linear_combos.specs.CodeLists.{ListsEach}
 use Rattle.word_laws.specs.AddedCodes.{times_in}
+use Rattle.word_laws.specs.Merges.{IsConvolution, IsMerge}
 use Rattle.product_laws.specs.AddedElements.{AddsElements}
 use Rattle.product_laws.specs.Classes.{IsByClasses, splits_into}
 use Rattle.product_laws.specs.Products.{IsProduct, IsProductRule}
@@ -30,6 +32,14 @@ RibbonLaw = (i j : Code) → IsIndex NcsfR i → IsIndex NcsfR j → IsProductRu
 pub record ConcatenationLaw : Type 0 where
   pub complete : (i j : Code) → IsIndex NcsfS i → IsIndex NcsfS j → IsProductRule NcsfS i j ((i ++ j) ∷ [])
   pub elementary : (i j : Code) → IsIndex NcsfL i → IsIndex NcsfL j → IsProductRule NcsfL i j ((i ++ j) ∷ [])
+
+-- G of s times G of t is the sum of G over the convolutions of s and t, at most 32 letters together (Malvenuto, Reutenauer 1995; Duchamp, Hivert, Thibon 2002)
+abbrev pub ConvolutionLaw : Type 0
+ConvolutionLaw = (s t : Code) (codes : List Code) → length s + length t ≤ 32 → ListsEach (IsConvolution s t) codes → IsProductRule FqsymG s t codes
+
+-- M of u times M of v is the sum of M over the merges of u and v, at most 32 letters together (Hivert 1999; Novelli, Thibon 2006)
+abbrev pub MergeLaw : Type 0
+MergeLaw = (u v : Code) (codes : List Code) → length u + length v ≤ 32 → ListsEach (IsMerge u v) codes → IsProductRule WqsymM u v codes
 
 -- a combination is the answer of the product of two elements
 abbrev pub IsProductAnswer : BasisId → Code → Code → Combination → Type 0

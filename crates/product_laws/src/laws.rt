@@ -1,5 +1,5 @@
 //! Laws of products. A function here computes nothing: callers cite its clause.
-ghost use Rattle.product_laws.specs.Laws.{ClassLaw, RibbonLaw, ConcatenationLaw, AnswerLaw, GatheringLaw};
+ghost use Rattle.product_laws.specs.Laws.{ClassLaw, RibbonLaw, ConcatenationLaw, ConvolutionLaw, MergeLaw, AnswerLaw, GatheringLaw};
 
 /// Over a class basis of words, the product of two elements is the sum over the indices whose front and
 /// back are those of the factors.
@@ -24,6 +24,23 @@ pub fn ribbon_law()
 /// Nothing is computed: callers cite the clause.
 pub fn concatenation_law()
     ensures { ConcatenationLaw }
+{}
+
+/// The product of two elements of `FQSym.G` is the sum over the convolutions, the permutations whose
+/// front and back have the factors as their standardisations (Malvenuto, Reutenauer 1995; Duchamp,
+/// Hivert, Thibon 2002).
+///
+/// Nothing is computed: callers cite the clause.
+pub fn convolution_law()
+    ensures { ConvolutionLaw }
+{}
+
+/// The product of two elements of `WQSym.M` is the sum over the merges, the packed words whose front
+/// and back have the factors as their packings (Hivert 1999; Novelli, Thibon 2006).
+///
+/// Nothing is computed: callers cite the clause.
+pub fn merge_law()
+    ensures { MergeLaw }
 {}
 
 /// A combination to which the codes of a product rule were added, each once, is the answer of the

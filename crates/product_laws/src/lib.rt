@@ -6,4 +6,6 @@
 
 mod laws;
 
-pub use laws::{answer_law, class_law, concatenation_law, gathering_law, ribbon_law};
+pub use laws::{
+    answer_law, class_law, concatenation_law, convolution_law, gathering_law, merge_law, ribbon_law,
+};
