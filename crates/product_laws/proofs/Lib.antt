@@ -5,6 +5,7 @@ pub mod ConcatenationRules
 pub mod CutRules
 pub mod DistinctWords
 pub mod ElementProducts
+pub mod EveryShuffle
 pub mod GatheredElements
 pub mod ListedOnce
 pub mod MultiplicativeBases
@@ -14,5 +15,8 @@ pub mod PartialSums
 pub mod Parts
 pub mod RibbonRule
 pub mod Ribbons
+pub mod ShuffleRule
+pub mod SortedLists
+pub mod SortedPlaces
 pub mod Tests
 pub mod Units

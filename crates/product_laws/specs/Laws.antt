@@ -1,7 +1,7 @@
 -- Laws of products, by rules on indices. Public functions with empty bodies ensure them (`src/laws.rt`).
 use Rattle.std.specs.Prelude.{◌≡◌, ℕ, ◌+◌, ◌≤◌, List, [], ◌∷◌, ◌++◌, length}
 use Rattle.basis_names.specs.declared.bases.BasisId.{BasisId}
-use Rattle.basis_names.specs.declared.bases.BasisId.TheVariants.{FqsymG, NcsfL, NcsfR, NcsfS, WqsymM}
+use Rattle.basis_names.specs.declared.bases.BasisId.TheVariants.{FqsymF, FqsymG, NcsfL, NcsfR, NcsfS, WqsymM}
 use Rattle.realisations.specs.Answers.{IsAnswer}
 use Rattle.realisations.specs.Codes.{Code}
 use Rattle.realisations.specs.Combinations.{Combination, IsCanonical, norm_of}
@@ -9,6 +9,7 @@ use Rattle.realisations.specs.Indices.{IsIndex, degree_of}
 use Rattle.realisations.specs.Lists.{one_if}
 use Rattle.realisations.specs.Points.{Point}
 use Rattle.realisations.specs.Readings.{element, product}
+use Rattle.realisations.specs.Words.{shifted_shuffles}
 use Rattle.linear_combos.specs.CodeLists.{ListsEach}
 use Rattle.word_laws.specs.AddedCodes.{times_in}
 use Rattle.word_laws.specs.Merges.{IsConvolution, IsMerge}
@@ -32,6 +33,10 @@ RibbonLaw = (i j : Code) → IsIndex NcsfR i → IsIndex NcsfR j → IsProductRu
 pub record ConcatenationLaw : Type 0 where
   pub complete : (i j : Code) → IsIndex NcsfS i → IsIndex NcsfS j → IsProductRule NcsfS i j ((i ++ j) ∷ [])
   pub elementary : (i j : Code) → IsIndex NcsfL i → IsIndex NcsfL j → IsProductRule NcsfL i j ((i ++ j) ∷ [])
+
+-- F of s times F of t is the sum of F over the shuffles of s with t raised by the size of s (Malvenuto, Reutenauer 1995)
+abbrev pub ShuffleLaw : Type 0
+ShuffleLaw = (s t : Code) → IsIndex FqsymF s → IsIndex FqsymF t → IsProductRule FqsymF s t (shifted_shuffles s t)
 
 -- G of s times G of t is the sum of G over the convolutions of s and t, at most 32 letters together (Malvenuto, Reutenauer 1995; Duchamp, Hivert, Thibon 2002)
 abbrev pub ConvolutionLaw : Type 0

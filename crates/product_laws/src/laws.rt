@@ -1,5 +1,5 @@
 //! Laws of products. A function here computes nothing: callers cite its clause.
-ghost use Rattle.product_laws.specs.Laws.{ClassLaw, RibbonLaw, ConcatenationLaw, ConvolutionLaw, MergeLaw, AnswerLaw, GatheringLaw};
+ghost use Rattle.product_laws.specs.Laws.{ClassLaw, RibbonLaw, ConcatenationLaw, ShuffleLaw, ConvolutionLaw, MergeLaw, AnswerLaw, GatheringLaw};
 
 /// Over a class basis of words, the product of two elements is the sum over the indices whose front and
 /// back are those of the factors.
@@ -24,6 +24,14 @@ pub fn ribbon_law()
 /// Nothing is computed: callers cite the clause.
 pub fn concatenation_law()
     ensures { ConcatenationLaw }
+{}
+
+/// The product of two elements of `FQSym.F` is the sum over the shuffles of the first permutation with
+/// the second one raised by its size (Malvenuto, Reutenauer 1995).
+///
+/// Nothing is computed: callers cite the clause.
+pub fn shuffle_law()
+    ensures { ShuffleLaw }
 {}
 
 /// The product of two elements of `FQSym.G` is the sum over the convolutions, the permutations whose
