@@ -1,11 +1,12 @@
 -- What is true of each shuffle of two words, and how many there are.
-use Rattle.std.proofs.Common.{◌≡◌, ℕ, zero, suc, ◌+◌, ◌^◌, ◌≤◌, Bool, List, [], ◌∷◌, ◌++◌, map, length, arith}
+use Rattle.std.proofs.Common.{◌≡◌, ℕ, zero, suc, ◌+◌, ◌^◌, ◌≤◌, Bool, List, [], ◌∷◌, ◌++◌, map, length, refl, arith}
 use Rattle.std.specs.List.{AllByRecursion}
 use Rattle.std.proofs.lemmas.List.{length-append, length-map}
 use Rattle.std.proofs.lemmas.Nat.{pow_pos}
 use Rattle.realisations.specs.Lists.{count}
 use Rattle.realisations.specs.Words.{shuffles}
 use Rattle.realisations.proofs.Every.{every-append, every-map}
+use Rattle.realisations.proofs.Sums.{sums}
 
 -- each shuffle has as many letters of a kind as both words
 abbrev pub CountsAsBoth : List ℕ → List ℕ → List ℕ → Type 0
@@ -36,3 +37,8 @@ few_shuffles n (x ∷ u) [] e = omega (arith, pow_pos n)
 few_shuffles zero (x ∷ u) (y ∷ v) e = absurd (omega (arith, e))
 few_shuffles (suc n) (x ∷ u) (y ∷ v) e =
     omega (arith, length-shuffles x u y v, few_shuffles n u (y ∷ v) (omega (arith, e)), few_shuffles n (x ∷ u) v (omega (arith, e)))
+
+-- functions that are equal on the elements of a list have equal sums
+pub sums_same_on : {X : Type 0} (P : X → Type 0) (f g : X → ℕ) → ((x : X) → P x → f x ≡ g x) → (xs : List X) → AllByRecursion P xs → sums f xs ≡ sums g xs
+sums_same_on P f g e [] h = refl
+sums_same_on P f g e (x ∷ xs) h = omega (arith, e x h.0, sums_same_on P f g e xs h.1)

@@ -6,6 +6,8 @@ pub mod CutRules
 pub mod DistinctWords
 pub mod ElementProducts
 pub mod EveryShuffle
+pub mod FundamentalFits
+pub mod FundamentalProducts
 pub mod GatheredElements
 pub mod ListedOnce
 pub mod MultiplicativeBases
@@ -15,6 +17,8 @@ pub mod PartialSums
 pub mod Parts
 pub mod RibbonRule
 pub mod Ribbons
+pub mod RisingShuffles
+pub mod ShuffleCuts
 pub mod ShuffleRule
 pub mod SortedLists
 pub mod SortedPlaces

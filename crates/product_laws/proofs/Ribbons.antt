@@ -11,6 +11,7 @@ use Rattle.realisations.specs.Lists.{same_list, one_if}
 use Rattle.realisations.specs.Occurrence.{occurs}
 use Rattle.realisations.proofs.DescentCompositions.{descends}
 use Rattle.basis_representatives.proofs.SameLists.{one_if-and, same_list-true}
+use Rattle.basis_representatives.proofs.Steps.{IsComposition-descent_composition}
 use Rattle.product_laws.specs.Products.{IsProduct}
 use Rattle.product_laws.specs.Ribbons.{near_concatenation, ribbon_products}
 use Rattle.product_laws.proofs.ElementProducts.{occurrences, OccursAtLength, reads_as_product}
@@ -32,17 +33,6 @@ longer_has_part false (i ∷ parts) = tt
 pub has_part : (x : ℕ) (w : List ℕ) → HasPart (descent_composition (x ∷ w))
 has_part x [] = tt
 has_part x (y ∷ w) = longer_has_part (nat_lt y x) (descent_composition (y ∷ w))
-
-longer_is_composition : (b : Bool) (parts : List ℕ) → IsComposition parts → IsComposition (if b then 1 ∷ parts else longer_first parts)
-longer_is_composition true parts h = (omega arith, h)
-longer_is_composition false [] h = (omega arith, tt)
-longer_is_composition false (i ∷ parts) h = (omega arith, h.1)
-
--- it is a composition
-pub descent_composition-is_composition : (w : List ℕ) → IsComposition (descent_composition w)
-descent_composition-is_composition [] = tt
-descent_composition-is_composition (x ∷ []) = (omega arith, tt)
-descent_composition-is_composition (x ∷ y ∷ w) = longer_is_composition (nat_lt y x) (descent_composition (y ∷ w)) (descent_composition-is_composition (y ∷ w))
 
 -- one more letter in front of a concatenation or a near concatenation
 
@@ -156,7 +146,7 @@ module _ (i : ℕ) (is : List ℕ) (j : ℕ) (js : List ℕ) (hi : IsComposition
       (λ k. occurrences NcsfR (ribbon_products (i ∷ is) (j ∷ js)) (sym whole k))
       ∙ (λ k. let c = descent_composition-append x u y v k in one_if (same_list c ((i ∷ is) ++ (j ∷ js))) + (one_if (same_list c (near_concatenation (i ∷ is) (j ∷ js))) + 0))
       ∙ products_of_pair (descent_composition (x ∷ u)) (descent_composition (y ∷ v)) (i ∷ is) (j ∷ js)
-      (descent_composition-is_composition (x ∷ u)) (descent_composition-is_composition (y ∷ v)) hi hj (has_part x u) (has_part y v) tt tt
+      (IsComposition-descent_composition (x ∷ u)) (IsComposition-descent_composition (y ∷ v)) hi hj (has_part x u) (has_part y v) tt tt
       ((descends (x ∷ u)).0 ∙ size) (nat_lt y (last_letter x u))
 
   ribbons_at : (p : List ℕ) → occurrences NcsfR (ribbon_products (i ∷ is) (j ∷ js)) p

@@ -1,7 +1,7 @@
 -- Laws of products, by rules on indices. Public functions with empty bodies ensure them (`src/laws.rt`).
 use Rattle.std.specs.Prelude.{◌≡◌, ℕ, ◌+◌, ◌≤◌, List, [], ◌∷◌, ◌++◌, length}
 use Rattle.basis_names.specs.declared.bases.BasisId.{BasisId}
-use Rattle.basis_names.specs.declared.bases.BasisId.TheVariants.{FqsymF, FqsymG, NcsfL, NcsfR, NcsfS, WqsymM}
+use Rattle.basis_names.specs.declared.bases.BasisId.TheVariants.{FqsymF, FqsymG, NcsfL, NcsfR, NcsfS, QsymF, WqsymM}
 use Rattle.realisations.specs.Answers.{IsAnswer}
 use Rattle.realisations.specs.Codes.{Code}
 use Rattle.realisations.specs.Combinations.{Combination, IsCanonical, norm_of}
@@ -15,6 +15,7 @@ use Rattle.word_laws.specs.AddedCodes.{times_in}
 use Rattle.word_laws.specs.Merges.{IsConvolution, IsMerge}
 use Rattle.product_laws.specs.AddedElements.{AddsElements}
 use Rattle.product_laws.specs.Classes.{IsByClasses, splits_into}
+use Rattle.product_laws.specs.FundamentalProducts.{fundamental_products}
 use Rattle.product_laws.specs.Products.{IsProduct, IsProductRule}
 use Rattle.product_laws.specs.Ribbons.{ribbon_products}
 
@@ -24,6 +25,10 @@ ClassLaw = (basis : BasisId) (class_of : Point → Code) (front back : ℕ → C
     (left right : Code) (codes : List Code) →
     ((code : Code) → IsIndex basis code → times_in code codes ≡ one_if (splits_into front back (degree_of basis left) left right code)) →
     IsProduct basis left right codes
+
+-- F of I times F of J is the sum of F of C(w) over the shuffles w of a word with descent composition I and one with descent composition J on higher letters (Gessel 1984)
+abbrev pub FundamentalLaw : Type 0
+FundamentalLaw = (i j : Code) → IsIndex QsymF i → IsIndex QsymF j → IsProductRule QsymF i j (fundamental_products i j)
 
 -- R of I times R of J is R of I . J and R of I > J (Gelfand, Krob, Lascoux, Leclerc, Retakh, Thibon 1995)
 abbrev pub RibbonLaw : Type 0

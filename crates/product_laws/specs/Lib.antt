@@ -1,5 +1,6 @@
 pub mod AddedElements
 pub mod Classes
+pub mod FundamentalProducts
 pub mod Laws
 pub mod Products
 pub mod Ribbons

@@ -1,5 +1,5 @@
 //! Laws of products. A function here computes nothing: callers cite its clause.
-ghost use Rattle.product_laws.specs.Laws.{ClassLaw, RibbonLaw, ConcatenationLaw, ShuffleLaw, ConvolutionLaw, MergeLaw, AnswerLaw, GatheringLaw};
+ghost use Rattle.product_laws.specs.Laws.{ClassLaw, FundamentalLaw, RibbonLaw, ConcatenationLaw, ShuffleLaw, ConvolutionLaw, MergeLaw, AnswerLaw, GatheringLaw};
 
 /// Over a class basis of words, the product of two elements is the sum over the indices whose front and
 /// back are those of the factors.
@@ -7,6 +7,14 @@ ghost use Rattle.product_laws.specs.Laws.{ClassLaw, RibbonLaw, ConcatenationLaw,
 /// Nothing is computed: callers cite the clause.
 pub fn class_law()
     ensures { ClassLaw }
+{}
+
+/// The product of two fundamental quasi-symmetric functions is the sum over the shuffles of two words
+/// that have their descent compositions, each shuffle by its own descent composition (Gessel 1984).
+///
+/// Nothing is computed: callers cite the clause.
+pub fn fundamental_law()
+    ensures { FundamentalLaw }
 {}
 
 /// The product of two ribbons is the ribbon of the concatenation of their compositions and that of the
