@@ -93,10 +93,10 @@ letters_of_packed w h =
     let all = all_letters w h in
     two_letters (λ x. 1 ≤ x) (λ x. x ≤ length w) w all.positive (letters_to_greatest w (length w) (greatest-packed w all))
 
-both_same : (a b c d : List ℕ) → a ≡ b → c ≡ d → (same_list a b && same_list c d) ≡ true
+pub both_same : (a b c d : List ℕ) → a ≡ b → c ≡ d → (same_list a b && same_list c d) ≡ true
 both_same a b c d e f = and_from (same_list a b) (same_list c d) (same_list-is a b e) (same_list-is c d f)
 
-same_both : (a b c d : List ℕ) → (same_list a b && same_list c d) ≡ true → (a ≡ b) × (c ≡ d)
+pub same_both : (a b c d : List ℕ) → (same_list a b && same_list c d) ≡ true → (a ≡ b) × (c ≡ d)
 same_both a b c d e = let t = and_parts (same_list a b) (same_list c d) e in (same_list-true a b t.0, same_list-true c d t.1)
 
 -- G of s times G of t is the sum of G over the convolutions

@@ -23,4 +23,5 @@ pub mod ShuffleRule
 pub mod SortedLists
 pub mod SortedPlaces
 pub mod Tests
+pub mod TreeRule
 pub mod Units

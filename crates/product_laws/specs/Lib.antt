@@ -4,3 +4,4 @@ pub mod FundamentalProducts
 pub mod Laws
 pub mod Products
 pub mod Ribbons
+pub mod TreeCuts
