@@ -80,7 +80,7 @@ module _ (basis : BasisId) (class_of : List ℕ → List ℕ) (front back : ℕ 
 whole_length : (n k : ℕ) (w : List ℕ) → length (take n w) ≡ n → length (drop n w) ≡ k → length w ≡ n + k
 whole_length n k w front back = omega (arith, front, back, length-take n w, length-drop n w)
 
-two_letters : (P Q : ℕ → Type 0) (w : List ℕ) → Letters P w → Letters Q w → Letters (λ x. P x × Q x) w
+pub two_letters : (P Q : ℕ → Type 0) (w : List ℕ) → Letters P w → Letters Q w → Letters (λ x. P x × Q x) w
 two_letters P Q [] h k = tt
 two_letters P Q (x ∷ w) h k = ((h.0, k.0), two_letters P Q w h.1 k.1)
 

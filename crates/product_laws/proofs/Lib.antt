@@ -3,6 +3,7 @@ pub mod AddingElements
 pub mod ClassProducts
 pub mod ConcatenationRules
 pub mod CutRules
+pub mod CutTableaux
 pub mod DistinctWords
 pub mod ElementProducts
 pub mod EveryShuffle
@@ -22,6 +23,7 @@ pub mod ShuffleCuts
 pub mod ShuffleRule
 pub mod SortedLists
 pub mod SortedPlaces
+pub mod TableauRule
 pub mod Tests
 pub mod TreeRule
 pub mod Units

@@ -1,7 +1,7 @@
 -- Laws of products, by rules on indices. Public functions with empty bodies ensure them (`src/laws.rt`).
 use Rattle.std.specs.Prelude.{◌≡◌, ℕ, ◌+◌, ◌≤◌, List, [], ◌∷◌, ◌++◌, length}
 use Rattle.basis_names.specs.declared.bases.BasisId.{BasisId}
-use Rattle.basis_names.specs.declared.bases.BasisId.TheVariants.{FqsymF, FqsymG, NcsfL, NcsfR, NcsfS, PbtP, QsymF, WqsymM}
+use Rattle.basis_names.specs.declared.bases.BasisId.TheVariants.{FqsymF, FqsymG, FsymS, NcsfL, NcsfR, NcsfS, PbtP, QsymF, WqsymM}
 use Rattle.realisations.specs.Answers.{IsAnswer}
 use Rattle.realisations.specs.Codes.{Code}
 use Rattle.realisations.specs.Combinations.{Combination, IsCanonical, norm_of}
@@ -18,6 +18,7 @@ use Rattle.product_laws.specs.Classes.{IsByClasses, splits_into}
 use Rattle.product_laws.specs.FundamentalProducts.{fundamental_products}
 use Rattle.product_laws.specs.Products.{IsProduct, IsProductRule}
 use Rattle.product_laws.specs.Ribbons.{ribbon_products}
+use Rattle.product_laws.specs.TableauCuts.{IsTableauProduct}
 use Rattle.product_laws.specs.TreeCuts.{IsTreeProduct}
 
 -- over a class basis of words, codes that hold each index once where its front and its back are those of two factors, and else not, read as the product
@@ -51,6 +52,10 @@ ConvolutionLaw = (s t : Code) (codes : List Code) → length s + length t ≤ 32
 -- M of u times M of v is the sum of M over the merges of u and v, at most 32 letters together (Hivert 1999; Novelli, Thibon 2006)
 abbrev pub MergeLaw : Type 0
 MergeLaw = (u v : Code) (codes : List Code) → length u + length v ≤ 32 → ListsEach (IsMerge u v) codes → IsProductRule WqsymM u v codes
+
+-- S of a times S of b is the sum of S over the standard tableaux whose front is a and whose back is b, at most 32 numbers together (Poirier, Reutenauer 1995)
+abbrev pub TableauLaw : Type 0
+TableauLaw = (a b : Code) (codes : List Code) → length a + length b ≤ 32 → ListsEach (IsTableauProduct a b) codes → IsProductRule FsymS a b codes
 
 -- P of T times P of U is the sum of P over the trees whose front is T and whose back is U, at most 32 nodes together (Loday, Ronco 1998; Hivert, Novelli, Thibon 2005)
 abbrev pub TreeLaw : Type 0

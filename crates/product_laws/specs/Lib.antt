@@ -4,4 +4,5 @@ pub mod FundamentalProducts
 pub mod Laws
 pub mod Products
 pub mod Ribbons
+pub mod TableauCuts
 pub mod TreeCuts

@@ -1,5 +1,5 @@
 //! Laws of products. A function here computes nothing: callers cite its clause.
-ghost use Rattle.product_laws.specs.Laws.{ClassLaw, FundamentalLaw, RibbonLaw, ConcatenationLaw, ShuffleLaw, ConvolutionLaw, MergeLaw, TreeLaw, AnswerLaw, GatheringLaw};
+ghost use Rattle.product_laws.specs.Laws.{ClassLaw, FundamentalLaw, RibbonLaw, ConcatenationLaw, ShuffleLaw, ConvolutionLaw, MergeLaw, TableauLaw, TreeLaw, AnswerLaw, GatheringLaw};
 
 /// Over a class basis of words, the product of two elements is the sum over the indices whose front and
 /// back are those of the factors.
@@ -57,6 +57,15 @@ pub fn convolution_law()
 /// Nothing is computed: callers cite the clause.
 pub fn merge_law()
     ensures { MergeLaw }
+{}
+
+/// The product of two elements of `FSym.S` is the sum over the standard tableaux whose first numbers
+/// form the first factor, and whose others, restricted to them, form the second (Poirier, Reutenauer
+/// 1995).
+///
+/// Nothing is computed: callers cite the clause.
+pub fn tableau_law()
+    ensures { TableauLaw }
 {}
 
 /// The product of two elements of `PBT.P` is the sum over the trees whose first nodes, in infix order,

@@ -8,5 +8,5 @@ mod laws;
 
 pub use laws::{
     answer_law, class_law, concatenation_law, convolution_law, fundamental_law, gathering_law,
-    merge_law, ribbon_law, shuffle_law, tree_law,
+    merge_law, ribbon_law, shuffle_law, tableau_law, tree_law,
 };
