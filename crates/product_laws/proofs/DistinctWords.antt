@@ -7,6 +7,7 @@ use Rattle.std.proofs.lemmas.Nat.{pow-add}
 use Rattle.std.proofs.lemmas.Bool.{cases_lt, eq-eqb, ne_eqb}
 use Rattle.std.proofs.lemmas.List.{length-append, length-map}
 use Rattle.realisations.specs.Lists.{same_list, one_if}
+use Rattle.realisations.proofs.Every.{every-append, every-map}
 use Rattle.realisations.proofs.RisingMaps.{Letters}
 use Rattle.realisations.proofs.Sums.{sums, sums-add, sums_none}
 use Rattle.basis_representatives.proofs.SameLists.{one_if-and, same_list-sym}
@@ -37,7 +38,7 @@ length-range a zero = refl
 length-range a (suc n) = omega (arith, length-range (a + 1) n)
 
 -- there are m^n of them
-length-all_words : (m n : ℕ) → length (all_words m n) ≡ m ^ n
+pub length-all_words : (m n : ℕ) → length (all_words m n) ≡ m ^ n
 length-all_words m zero = sym (pow-zero m)
 length-all_words m (suc n) =
     length-with_first (range_with_len 1 m) (all_words m n)
@@ -77,6 +78,19 @@ times_in-all_words m zero (z ∷ w) h size = absurd (omega (arith, size))
 times_in-all_words m (suc n) [] h size = absurd (omega (arith, size))
 times_in-all_words m (suc n) (z ∷ w) h size =
     in_first z w 1 m (all_words m n) h.0.0 (omega (arith, h.0.1)) ∙ times_in-all_words m n w h.1 (omega (arith, size))
+
+-- and only these are among them
+words_with_first : (m n a k : ℕ) (ws : List (List ℕ)) → 1 ≤ a → a + k ≤ suc m → AllByRecursion (λ w. AreUpTo m w × (length w ≡ n)) ws
+    → AllByRecursion (λ w. AreUpTo m w × (length w ≡ suc n)) (with_first (range_with_len a k) ws)
+words_with_first m n a zero ws low high h = tt
+words_with_first m n a (suc k) ws low high h =
+    every-append (λ w. AreUpTo m w × (length w ≡ suc n)) (map (λ w. a ∷ w) ws) (with_first (range_with_len (a + 1) k) ws)
+    (every-map (λ w. AreUpTo m w × (length w ≡ n)) (λ w. AreUpTo m w × (length w ≡ suc n)) (λ w. a ∷ w) (λ w e. (((low, omega (arith, high)), e.0), omega (arith, e.1))) ws h)
+    (words_with_first m n (a + 1) k ws (omega arith) (omega (arith, high)) h)
+
+pub every_word : (m n : ℕ) → AllByRecursion (λ w. AreUpTo m w × (length w ≡ n)) (all_words m n)
+every_word m zero = ((tt, refl), tt)
+every_word m (suc n) = words_with_first m n 1 m (all_words m n) (omega arith) (omega arith) (every_word m n)
 
 -- the words of a list that are in another one are as many, counted either way
 over_one : (c : List ℕ) (ws : List (List ℕ)) → sums (λ w. one_if (same_list w c)) ws ≡ times_in c ws

@@ -1,6 +1,8 @@
 pub mod AddedElements
 pub mod AddingElements
+pub mod ChosenCodes
 pub mod ClassProducts
+pub mod ClassRules
 pub mod ConcatenationRules
 pub mod CutRules
 pub mod CutTableaux
@@ -19,6 +21,7 @@ pub mod Parts
 pub mod RibbonRule
 pub mod Ribbons
 pub mod RisingShuffles
+pub mod RulesExist
 pub mod ShuffleCuts
 pub mod ShuffleRule
 pub mod SortedLists

@@ -11,7 +11,7 @@ use Rattle.realisations.specs.IndexKinds.{IsTableauCode, is_permutation, is_stan
 use Rattle.realisations.specs.Standardisation.{inverse, standardise}
 use Rattle.realisations.specs.Tableaux.{insertion_tableau, reading_word, recording_tableau, row_of, rows_of, tableau_code}
 use Rattle.realisations.proofs.RisingMaps.{Letters}
-use Rattle.basis_representatives.proofs.ClassesOfWords.{recording_tableau-reading_word}
+use Rattle.basis_representatives.proofs.AllRepresentatives.{class_laws}
 use Rattle.basis_representatives.proofs.Entries.{length-enter_all}
 use Rattle.basis_representatives.proofs.PackedWords.{letters_to_greatest}
 use Rattle.basis_representatives.proofs.Permutations.{HasEachOnce, permutation_from, letters-permutation, letters_that_occur}
@@ -26,7 +26,8 @@ use Rattle.tableau_laws.proofs.StandardIntervals.{restriction, standardise-betwe
 use Rattle.product_laws.specs.Classes.{IsByClasses}
 use Rattle.product_laws.specs.Laws.{TableauLaw}
 use Rattle.product_laws.specs.TableauCuts.{back_tableau, IsTableauProduct}
-use Rattle.product_laws.proofs.CutRules.{both_same, same_both, rule_of_listed, two_letters}
+use Rattle.product_laws.proofs.ClassRules.{both_same, same_both, rule_of_listed}
+use Rattle.product_laws.proofs.CutRules.{two_letters}
 use Rattle.product_laws.proofs.CutTableaux.{code-low}
 use Rattle.product_laws.proofs.DistinctWords.{AreUpTo}
 use Rattle.product_laws.proofs.ShuffleRule.{lowered_places}
@@ -88,21 +89,8 @@ by_tableaux = record {
   backs = λ n p point. code-drop n p;
 }
 
--- the back of a tableau is as long as what is left of its code
-length-back : (n : ℕ) (code : List ℕ) → IsTableauCode code → length (back_tableau n code) ≡ length code - n
-length-back n code (rows, standard, is) =
-    let p : List ℕ = inverse (reading_word rows) in
-    let class : tableau_code (recording_tableau p) ≡ code = ap tableau_code (recording_tableau-reading_word rows standard) ∙ is in
-    let size : length p ≡ length code = sym (length-code (sorted_places p) ∙ length-sorted_places p) ∙ ap length class in
-    ap (λ c. length (back_tableau n c)) (sym class)
-    ∙ ap length (code-drop n p)
-    ∙ length-code (sorted_places (drop n p))
-    ∙ length-sorted_places (drop n p)
-    ∙ length-drop n p
-    ∙ ap (λ k. k - n) size
-
 -- the letters of the code of a tableau are from 1 to its size
-letters_of_tableau : (code : List ℕ) → IsTableauCode code → AreUpTo (length code) code
+pub letters_of_tableau : (code : List ℕ) → IsTableauCode code → AreUpTo (length code) code
 letters_of_tableau code h =
     let lattice : IsLatticeWord code = lattice-tableau_code code h in
     two_letters (λ x. 1 ≤ x) (λ x. x ≤ length code) code lattice.positive (letters_to_greatest code (length code) (greatest-lattice code lattice))
@@ -110,10 +98,8 @@ letters_of_tableau code h =
 -- S of a times S of b is the sum of S over the tableaux whose front and back they are
 pub tableau_rule : TableauLaw
 tableau_rule a b codes small lists =
-    rule_of_listed FsymS (λ p. tableau_code (recording_tableau p)) (λ n code. take n code) (λ n code. back_tableau n code) by_tableaux a b (IsTableauProduct a b)
-    (λ c h. both_same _ a _ b h.front h.back)
+    rule_of_listed FsymS (λ p. tableau_code (recording_tableau p)) (λ n code. take n code) (λ n code. back_tableau n code) by_tableaux class_laws.tableaux a b (IsTableauProduct a b)
+    (λ c h. (h.tableau, both_same _ a _ b h.front h.back))
     (λ c is e. let p = same_both (take (length a) c) a (back_tableau (length a) c) b e in record { tableau = is; front = p.0; back = p.1 })
-    (λ c h. h.tableau)
-    (λ c h. omega (arith, ap length h.front, length-take (length a) c, ap length h.back, length-back (length a) c h.tableau))
-    (λ c h. (letters_of_tableau c h.tableau, refl))
+    (λ c is. (letters_of_tableau c is, refl))
     codes small lists

@@ -1,18 +1,18 @@
 -- The rule of the product of PBT.P: the trees whose front and back are the factors.
 use Rattle.std.proofs.Common.{◌≡◌, ℕ, zero, suc, ◌+◌, ◌<◌, ◌≤◌, Bool, true, false, List, [], ◌∷◌, ◌++◌, length, take, drop, min, refl, sym, ◌∙◌, ap, subst, arith}
 use Rattle.std.specs.Prelude.{nat_lt, if◌then◌else◌}
-use Rattle.std.proofs.lemmas.List.{length-drop}
 use Rattle.basis_names.specs.declared.bases.BasisId.TheVariants.{PbtP}
 use Rattle.realisations.specs.IndexKinds.{IsTreeCode}
 use Rattle.realisations.specs.Trees.{Tree, empty, node, tree_size, tree_code, decreasing_tree}
 use Rattle.realisations.proofs.RisingMaps.{Letters}
+use Rattle.basis_representatives.proofs.AllRepresentatives.{class_laws}
 use Rattle.basis_representatives.proofs.CodesByLetters.{decreasing_code, smaller_next}
 use Rattle.basis_representatives.proofs.Letters.{Letters-append, Letters-weaker}
 use Rattle.basis_representatives.proofs.TreeCodes.{code-decreasing_tree, length-decreasing_code, length-tree_code}
 use Rattle.product_laws.specs.Classes.{IsByClasses}
 use Rattle.product_laws.specs.Laws.{TreeLaw}
 use Rattle.product_laws.specs.TreeCuts.{front_code, IsTreeProduct}
-use Rattle.product_laws.proofs.CutRules.{both_same, same_both, rule_of_listed}
+use Rattle.product_laws.proofs.ClassRules.{both_same, same_both, rule_of_listed}
 use Rattle.product_laws.proofs.DistinctWords.{AreUpTo}
 
 -- fewer letters follow within a front
@@ -58,21 +58,14 @@ letters_of_tree (node l r) n le =
     Letters-append (λ x. (1 ≤ x) × (x ≤ n)) (tree_code l) (suc (tree_size r) ∷ tree_code r) (letters_of_tree l n (omega (arith, le)))
     ((omega arith, omega (arith, le)), letters_of_tree r n (omega (arith, le)))
 
-letters_of_code : (code : List ℕ) → IsTreeCode code → AreUpTo (length code) code
+pub letters_of_code : (code : List ℕ) → IsTreeCode code → AreUpTo (length code) code
 letters_of_code code (t, is) = subst (λ c. AreUpTo (length c) c) is (letters_of_tree t (length (tree_code t)) (omega (arith, length-tree_code t)))
-
-length-front_code : (n : ℕ) (code : List ℕ) → length (front_code n code) ≡ min n (length code)
-length-front_code zero code = omega arith
-length-front_code (suc n) [] = omega arith
-length-front_code (suc n) (c ∷ code) = omega (arith, length-front_code n code)
 
 -- P of T times P of U is the sum of P over the trees whose front and back they are
 pub tree_rule : TreeLaw
 tree_rule s t codes small lists =
-    rule_of_listed PbtP (λ p. tree_code (decreasing_tree p)) (λ n code. front_code n code) (λ n code. drop n code) by_trees s t (IsTreeProduct s t)
-    (λ c h. both_same _ s _ t h.front h.back)
+    rule_of_listed PbtP (λ p. tree_code (decreasing_tree p)) (λ n code. front_code n code) (λ n code. drop n code) by_trees class_laws.trees s t (IsTreeProduct s t)
+    (λ c h. (h.tree, both_same _ s _ t h.front h.back))
     (λ c is e. let p = same_both (front_code (length s) c) s (drop (length s) c) t e in record { tree = is; front = p.0; back = p.1 })
-    (λ c h. h.tree)
-    (λ c h. omega (arith, ap length h.front, length-front_code (length s) c, ap length h.back, length-drop (length s) c))
-    (λ c h. (letters_of_code c h.tree, refl))
+    (λ c is. (letters_of_code c is, refl))
     codes small lists

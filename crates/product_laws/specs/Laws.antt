@@ -1,7 +1,7 @@
 -- Laws of products, by rules on indices. Public functions with empty bodies ensure them (`src/laws.rt`).
 use Rattle.std.specs.Prelude.{◌≡◌, ℕ, ◌+◌, ◌≤◌, List, [], ◌∷◌, ◌++◌, length}
 use Rattle.basis_names.specs.declared.bases.BasisId.{BasisId}
-use Rattle.basis_names.specs.declared.bases.BasisId.TheVariants.{FqsymF, FqsymG, FsymS, NcsfL, NcsfR, NcsfS, PbtP, QsymF, WqsymM}
+use Rattle.basis_names.specs.declared.bases.BasisId.TheVariants.{FqsymF, FqsymG, FsymS, NcsfL, NcsfR, NcsfS, PbtP, QsymF, QsymM, WqsymM}
 use Rattle.realisations.specs.Answers.{IsAnswer}
 use Rattle.realisations.specs.Codes.{Code}
 use Rattle.realisations.specs.Combinations.{Combination, IsCanonical, norm_of}
@@ -75,4 +75,9 @@ AnswerLaw = (basis : BasisId) (left right : Code) (codes : List Code) (c : Combi
 -- a product rule of degree at most 25 has a combination that is its answer, whatever memory there is
 abbrev pub GatheringLaw : Type 0
 GatheringLaw = (basis : BasisId) (left right : Code) (codes : List Code) → IsProductRule basis left right codes →
+    degree_of basis left + degree_of basis right ≤ 25 → (c : Combination) × IsProductAnswer basis left right c
+
+-- each product of two elements of degrees at most 25 together, but of QSym.M, has an answer
+abbrev pub ExistenceLaw : Type 0
+ExistenceLaw = (basis : BasisId) → (basis ≡ QsymM → ⊥) → (left right : Code) → IsIndex basis left → IsIndex basis right →
     degree_of basis left + degree_of basis right ≤ 25 → (c : Combination) × IsProductAnswer basis left right c

@@ -1,5 +1,5 @@
 //! Laws of products. A function here computes nothing: callers cite its clause.
-ghost use Rattle.product_laws.specs.Laws.{ClassLaw, FundamentalLaw, RibbonLaw, ConcatenationLaw, ShuffleLaw, ConvolutionLaw, MergeLaw, TableauLaw, TreeLaw, AnswerLaw, GatheringLaw};
+ghost use Rattle.product_laws.specs.Laws.{ClassLaw, FundamentalLaw, RibbonLaw, ConcatenationLaw, ShuffleLaw, ConvolutionLaw, MergeLaw, TableauLaw, TreeLaw, AnswerLaw, GatheringLaw, ExistenceLaw};
 
 /// Over a class basis of words, the product of two elements is the sum over the indices whose front and
 /// back are those of the factors.
@@ -91,4 +91,12 @@ pub fn answer_law()
 /// Nothing is computed: callers cite the clause.
 pub fn gathering_law()
     ensures { GatheringLaw }
+{}
+
+/// Each product of two elements of one basis, of degrees at most 25 together, has an answer, whatever
+/// memory there is. The products of `QSym.M` are not spoken of here.
+///
+/// Nothing is computed: callers cite the clause.
+pub fn existence_law()
+    ensures { ExistenceLaw }
 {}
