@@ -1,12 +1,11 @@
 -- A combination to which the codes of a product rule were added, each once, is its answer.
-use Rattle.std.proofs.Common.{◌≡◌, ℕ, List, [], ◌∷◌, map, refl, sym, ◌∙◌, ap, subst, arith, ◌⊎◌, inl, inr}
-use Rattle.std.proofs.Math.IntN.{ℤ, pos, ◌*ℤ◌}
+use Rattle.std.proofs.Common.{◌≡◌, ℕ, List, [], ◌∷◌, sym, ◌∙◌, ap, subst, arith, ◌⊎◌, inl, inr}
+use Rattle.std.proofs.Math.IntN.{pos, ◌*ℤ◌}
 use Rattle.std.proofs.lemmas.Int.{ints}
 use Rattle.basis_names.specs.declared.bases.BasisId.{BasisId}
 use Rattle.realisations.specs.Bases.{kind_of}
 use Rattle.realisations.specs.Combinations.{HasKey}
-use Rattle.realisations.specs.Indices.{AreIndices, degree_of, total_degree}
-use Rattle.realisations.specs.Points.{IsPoint}
+use Rattle.realisations.specs.Indices.{AreIndices, total_degree}
 use Rattle.realisations.specs.Readings.{leaf, product, element, denominator, AgreeAt}
 use Rattle.realisations.proofs.TuplesOfPoints.{at_one_point}
 use Rattle.product_laws.specs.AddedElements.{IsCodeOf}

@@ -7,6 +7,7 @@ use Rattle.realisations.specs.Combinations.{HasKey, AddsTerm}
 use Rattle.realisations.specs.Lists.{int_sum}
 use Rattle.realisations.specs.Readings.{Terms}
 use Rattle.product_laws.specs.AddedElements.{IsCodeOf, AddsElements}
+use Rattle.product_laws.specs.Laws.{AddingLaw}
 
 -- no element was added
 pub adds_none : (ts : Terms) → AddsElements ts ts []
@@ -52,3 +53,6 @@ adds_append old mid new xs ys a b = record {
     later : (key : Key) → HasKey mid key ⊎ IsCodeOf ys key → HasKey old key ⊎ IsCodeOf (xs ++ ys) key
     later key (inl h) = earlier key (a.keys key h)
     later key (inr h) = inr (code_right key xs ys h)
+
+pub adding : AddingLaw
+adding = record { none = adds_none; one = adds_one; append = adds_append }

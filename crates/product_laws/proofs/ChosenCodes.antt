@@ -1,22 +1,19 @@
 -- Each product of two elements of a class basis has a rule: the classes of the representatives among all words whose front and back are the factors.
-use Rattle.std.proofs.Common.{◌≡◌, ℕ, zero, suc, ◌+◌, ◌*◌, ◌^◌, ◌<◌, ◌≤◌, Bool, true, false, List, [], ◌∷◌, map, length, refl, sym, ◌∙◌, ap, subst, arith}
+use Rattle.std.proofs.Common.{◌≡◌, ℕ, suc, ◌+◌, ◌*◌, ◌≤◌, Bool, true, false, List, [], ◌∷◌, map, length, refl, sym, ◌∙◌, ap, subst, arith}
 use Rattle.std.specs.Prelude.{◌&&◌, if◌then◌else◌}
 use Rattle.std.specs.List.{AllByRecursion, filter}
-use Rattle.std.proofs.lemmas.Bool.{and_parts}
 use Rattle.std.proofs.lemmas.List.{length-map}
 use Rattle.basis_names.specs.declared.bases.BasisId.{BasisId}
 use Rattle.realisations.specs.Bases.{representative}
 use Rattle.realisations.specs.Indices.{IsIndex, degree_of}
 use Rattle.realisations.specs.Lists.{same_list, one_if}
-use Rattle.realisations.specs.Points.{IsPoint, word}
-use Rattle.realisations.proofs.RisingMaps.{Letters}
 use Rattle.realisations.proofs.Sums.{sums, sums_same, sums-scale}
 use Rattle.basis_representatives.specs.Laws.{AreClasses}
 use Rattle.basis_representatives.proofs.Letters.{Letters-weaker}
-use Rattle.basis_representatives.proofs.SameLists.{one_if-and, same_list-true}
+use Rattle.basis_representatives.proofs.SameLists.{same_list-true}
 use Rattle.word_laws.specs.AddedCodes.{times_in}
 use Rattle.product_laws.specs.Classes.{IsByClasses, splits_into}
-use Rattle.product_laws.specs.Products.{AreOfDegree, IsProductRule}
+use Rattle.product_laws.specs.Products.{IsProductRule}
 use Rattle.product_laws.proofs.ClassProducts.{indices_read}
 use Rattle.product_laws.proofs.ClassRules.{class_of-representative, degree_of-split}
 use Rattle.product_laws.proofs.DistinctWords.{AreUpTo, all_words, every_word, length-all_words, self_power, times_in-all_words}
@@ -85,8 +82,8 @@ module _ (basis : BasisId) (class_of : List ℕ → List ℕ) (front back : ℕ 
           ∙ join (same_list (representative basis code) p) (splits code)
       by_test false e =
           let other : same_list (representative basis code) p ≡ false = same_tests _ false
-              (λ f. absurd (differs (sym e ∙ same_list-is code (class_of p) (sym (class_of-representative basis class_of front back by classes code is) ∙ ap class_of (same_list-true (representative basis code) p f)))))
-              (λ f. absurd (cc)) in
+          (λ f. absurd (differs (sym e ∙ same_list-is code (class_of p) (sym (class_of-representative basis class_of front back by classes code is) ∙ ap class_of (same_list-true (representative basis code) p f)))))
+          (λ f. absurd (cc)) in
           omega (arith, ap (λ b. one_if (splits code) * one_if b) other)
         where
           differs : false ≡ true → ⊥
@@ -112,16 +109,19 @@ module _ (basis : BasisId) (class_of : List ℕ → List ℕ) (front back : ℕ 
 
   -- they are a rule of degree at most 32
   pub chosen_rule : whole ≤ 32 → (codes : List (List ℕ)) × IsProductRule basis left right codes
-  chosen_rule small = (chosen_codes, record {
-    reads = λ p point. indices_read basis class_of front back by left right chosen_codes chosen_once p point;
-    indices = every-filter (λ p. AreUpTo whole p × (length p ≡ whole)) (λ code. IsIndex basis code × (degree_of basis code ≡ whole)) (λ p. is_chosen p) class_of
-        (λ p chosen h. (by.index p (Letters-weaker (λ x. (1 ≤ x) × (x ≤ whole)) (λ x. 1 ≤ x) (λ x k. k.0) p h.0), by.degree p ∙ h.1))
-        (all_words whole whole) (every_word whole whole);
-    few = omega (
-      arith,
-      length-map (filter (λ p. is_chosen p) (all_words whole whole)) class_of,
-      length-filter (λ p. is_chosen p) (all_words whole whole),
-      length-all_words whole whole,
-      self_power whole small,
-    );
-  })
+  chosen_rule small = (
+    chosen_codes,
+    record {
+      reads = λ p point. indices_read basis class_of front back by left right chosen_codes chosen_once p point;
+      indices = every-filter (λ p. AreUpTo whole p × (length p ≡ whole)) (λ code. IsIndex basis code × (degree_of basis code ≡ whole)) (λ p. is_chosen p) class_of
+          (λ p chosen h. (by.index p (Letters-weaker (λ x. (1 ≤ x) × (x ≤ whole)) (λ x. 1 ≤ x) (λ x k. k.0) p h.0), by.degree p ∙ h.1))
+          (all_words whole whole) (every_word whole whole);
+      few = omega (
+        arith,
+        length-map (filter (λ p. is_chosen p) (all_words whole whole)) class_of,
+        length-filter (λ p. is_chosen p) (all_words whole whole),
+        length-all_words whole whole,
+        self_power whole small,
+      );
+    },
+  )

@@ -1,14 +1,13 @@
 -- The product of two elements of a class basis: the indices whose front and back are the factors.
-use Rattle.std.proofs.Common.{◌≡◌, ℕ, ◌*◌, List, [], ◌∷◌, length, take, drop, refl, sym, ◌∙◌, ap, arith}
+use Rattle.std.proofs.Common.{◌≡◌, ℕ, ◌*◌, List, [], ◌∷◌, take, drop, refl, sym, ◌∙◌, ap, arith}
 use Rattle.std.specs.Prelude.{◌&&◌}
 use Rattle.basis_names.specs.declared.bases.BasisId.{BasisId}
-use Rattle.realisations.specs.Indices.{IsIndex, degree_of}
+use Rattle.realisations.specs.Indices.{degree_of}
 use Rattle.realisations.specs.Lists.{same_list, one_if}
-use Rattle.realisations.specs.Occurrence.{occurs}
 use Rattle.realisations.specs.Points.{IsPoint, word}
 use Rattle.basis_representatives.proofs.SameLists.{one_if-and, same_list-true}
 use Rattle.word_laws.specs.AddedCodes.{times_in}
-use Rattle.product_laws.specs.Classes.{IsByClasses, splits_into}
+use Rattle.product_laws.specs.Classes.{IsByClasses}
 use Rattle.product_laws.specs.Laws.{ClassLaw}
 use Rattle.product_laws.specs.Products.{IsProduct}
 use Rattle.product_laws.proofs.ElementProducts.{occurrences, OccursAtLength, reads_as_product}

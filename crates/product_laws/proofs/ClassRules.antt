@@ -1,37 +1,22 @@
 -- The rule of the product of two elements of a class basis: the indices whose front and back are the factors, each once.
-use Rattle.std.proofs.Common.{◌≡◌, ℕ, zero, suc, ◌+◌, ◌*◌, ◌^◌, ◌<◌, ◌≤◌, Bool, true, false, IsTrue, List, [], ◌∷◌, length, take, drop, refl, sym, ◌∙◌, ap, subst, arith}
+use Rattle.std.proofs.Common.{◌≡◌, ℕ, ◌+◌, ◌≤◌, true, List, length, take, drop, sym, ◌∙◌, ap, subst, arith}
 use Rattle.std.specs.Prelude.{◌&&◌}
-use Rattle.std.specs.List.{AllByRecursion}
 use Rattle.std.proofs.lemmas.Bool.{and_parts, and_from}
-use Rattle.std.proofs.lemmas.List.{length-take, length-drop, length-map}
+use Rattle.std.proofs.lemmas.List.{length-take, length-drop}
 use Rattle.basis_names.specs.declared.bases.BasisId.{BasisId}
-use Rattle.basis_names.specs.declared.bases.BasisId.TheVariants.{FqsymG, WqsymM}
 use Rattle.realisations.specs.Bases.{representative}
-use Rattle.realisations.specs.IndexKinds.{is_packed, is_permutation}
 use Rattle.realisations.specs.Indices.{IsIndex, degree_of}
-use Rattle.realisations.specs.Lists.{same_list, one_if}
+use Rattle.realisations.specs.Lists.{same_list}
 use Rattle.realisations.specs.Points.{IsPoint, word}
-use Rattle.realisations.specs.Standardisation.{pack, rank_in, standardise}
-use Rattle.realisations.specs.Words.{greatest}
-use Rattle.realisations.proofs.RisingMaps.{Letters}
 use Rattle.basis_representatives.specs.Laws.{AreClasses}
-use Rattle.basis_representatives.proofs.AllRepresentatives.{class_laws}
-use Rattle.basis_representatives.proofs.PackedWords.{HasAllLetters, all_letters, packed_from, packed-pack, letters_to_greatest}
-use Rattle.basis_representatives.proofs.Permutations.{each_once, permutation_from, permutation-standardise, letters-permutation, letters_that_occur}
 use Rattle.basis_representatives.proofs.PointsOfIndices.{representative_point}
 use Rattle.basis_representatives.proofs.SameLists.{same_list-self, same_list-true}
-use Rattle.basis_representatives.proofs.SameOrder.{length-standardise}
-use Rattle.coproduct_laws.proofs.CutLetters.{greatest-packed}
-use Rattle.word_laws.specs.AddedCodes.{times_in}
-use Rattle.word_laws.specs.Merges.{IsConvolution, IsMerge}
-use Rattle.linear_combos.specs.CodeLists.{IsListed, ListsEach}
+use Rattle.linear_combos.specs.CodeLists.{ListsEach}
 use Rattle.product_laws.specs.Classes.{IsByClasses, splits_into}
-use Rattle.product_laws.specs.Laws.{ConvolutionLaw, MergeLaw}
 use Rattle.product_laws.specs.Products.{IsProductRule}
 use Rattle.product_laws.proofs.ClassProducts.{indices_read}
 use Rattle.product_laws.proofs.DistinctWords.{AreUpTo, few_distinct, self_power}
 use Rattle.product_laws.proofs.ListedOnce.{each_listed, times_in-listed, times_in-at_most}
-use Rattle.product_laws.proofs.OrderOfParts.{standardise-take, standardise-drop, pack-take, pack-drop}
 use Rattle.product_laws.proofs.Tests.{same_list-is}
 
 pub both_same : (a b c d : List ℕ) → a ≡ b → c ≡ d → (same_list a b && same_list c d) ≡ true

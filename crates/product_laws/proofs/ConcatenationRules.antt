@@ -1,5 +1,5 @@
 -- The rules of the products of complete functions and of elementary ones.
-use Rattle.std.proofs.Common.{ℕ, ◌+◌, ◌*◌, arith}
+use Rattle.std.proofs.Common.{◌+◌, ◌*◌, arith}
 use Rattle.std.specs.List.{sum}
 use Rattle.std.proofs.lemmas.Nat.{pow_pos}
 use Rattle.product_laws.specs.Laws.{ConcatenationLaw}

@@ -1,38 +1,21 @@
 -- The rules of the products of FQSym.G and WQSym.M: the permutations and the packed words whose front and back have given patterns.
-use Rattle.std.proofs.Common.{◌≡◌, ℕ, zero, suc, ◌+◌, ◌*◌, ◌^◌, ◌<◌, ◌≤◌, Bool, true, false, IsTrue, List, [], ◌∷◌, length, take, drop, refl, sym, ◌∙◌, ap, subst, arith}
-use Rattle.std.specs.Prelude.{◌&&◌}
-use Rattle.std.specs.List.{AllByRecursion}
-use Rattle.std.proofs.lemmas.Bool.{and_parts, and_from}
-use Rattle.std.proofs.lemmas.List.{length-take, length-drop, length-map}
-use Rattle.basis_names.specs.declared.bases.BasisId.{BasisId}
+use Rattle.std.proofs.Common.{◌≡◌, ℕ, ◌≤◌, IsTrue, List, [], ◌∷◌, length, take, drop, refl}
+use Rattle.std.proofs.lemmas.List.{length-map}
 use Rattle.basis_names.specs.declared.bases.BasisId.TheVariants.{FqsymG, WqsymM}
-use Rattle.realisations.specs.Bases.{representative}
 use Rattle.realisations.specs.IndexKinds.{is_packed, is_permutation}
-use Rattle.realisations.specs.Indices.{IsIndex, degree_of}
-use Rattle.realisations.specs.Lists.{same_list, one_if}
-use Rattle.realisations.specs.Points.{IsPoint, word}
 use Rattle.realisations.specs.Standardisation.{pack, rank_in, standardise}
-use Rattle.realisations.specs.Words.{greatest}
 use Rattle.realisations.proofs.RisingMaps.{Letters}
-use Rattle.basis_representatives.specs.Laws.{AreClasses}
 use Rattle.basis_representatives.proofs.AllRepresentatives.{class_laws}
-use Rattle.basis_representatives.proofs.PackedWords.{HasAllLetters, all_letters, packed_from, packed-pack, letters_to_greatest}
+use Rattle.basis_representatives.proofs.PackedWords.{all_letters, packed_from, packed-pack, letters_to_greatest}
 use Rattle.basis_representatives.proofs.Permutations.{each_once, permutation_from, permutation-standardise, letters-permutation, letters_that_occur}
-use Rattle.basis_representatives.proofs.PointsOfIndices.{representative_point}
-use Rattle.basis_representatives.proofs.SameLists.{same_list-self, same_list-true}
 use Rattle.basis_representatives.proofs.SameOrder.{length-standardise}
 use Rattle.coproduct_laws.proofs.CutLetters.{greatest-packed}
-use Rattle.word_laws.specs.AddedCodes.{times_in}
 use Rattle.word_laws.specs.Merges.{IsConvolution, IsMerge}
-use Rattle.linear_combos.specs.CodeLists.{IsListed, ListsEach}
-use Rattle.product_laws.specs.Classes.{IsByClasses, splits_into}
+use Rattle.product_laws.specs.Classes.{IsByClasses}
 use Rattle.product_laws.specs.Laws.{ConvolutionLaw, MergeLaw}
-use Rattle.product_laws.specs.Products.{IsProductRule}
 use Rattle.product_laws.proofs.ClassRules.{both_same, same_both, rule_of_listed}
-use Rattle.product_laws.proofs.DistinctWords.{AreUpTo, few_distinct, self_power}
-use Rattle.product_laws.proofs.ListedOnce.{each_listed, times_in-listed, times_in-at_most}
+use Rattle.product_laws.proofs.DistinctWords.{AreUpTo}
 use Rattle.product_laws.proofs.OrderOfParts.{standardise-take, standardise-drop, pack-take, pack-drop}
-use Rattle.product_laws.proofs.Tests.{same_list-is}
 
 -- FQSym.G is by classes: the standardisation of a word
 pub by_standardisations : IsByClasses FqsymG (λ p. standardise p) (λ n s. standardise (take n s)) (λ n s. standardise (drop n s))

@@ -1,11 +1,11 @@
 -- The tableau of the letters up to m of a permutation is its tableau cut at m, so its code is the front of the code.
-use Rattle.std.proofs.Common.{◌≡◌, ℕ, zero, suc, ◌+◌, ◌-◌, ◌<◌, ◌≤◌, Bool, true, false, List, [], ◌∷◌, ◌++◌, map, length, take, refl, sym, ◌∙◌, ap, subst, arith, inl, inr, ◌⊎◌}
-use Rattle.std.specs.Prelude.{nat_eq, nat_le, ◌&&◌, ◌||◌, if◌then◌else◌, Option, Some, None}
-use Rattle.std.specs.List.{concat, filter, range_with_len}
+use Rattle.std.proofs.Common.{◌≡◌, ℕ, suc, ◌+◌, ◌<◌, ◌≤◌, Bool, true, false, List, [], ◌∷◌, map, length, take, refl, sym, ◌∙◌, ap, subst, arith, inl, inr}
+use Rattle.std.specs.Prelude.{nat_eq, nat_le, ◌||◌, if◌then◌else◌, Option, Some, None}
+use Rattle.std.specs.List.{concat, range_with_len}
 use Rattle.std.proofs.lemmas.Bool.{cases_lt}
 use Rattle.std.proofs.lemmas.Bool.Decides.{nat_tests}
 use Rattle.std.proofs.lemmas.List.FromFn.{take-map-range_with_len}
-use Rattle.realisations.specs.Lists.{is_among, one_if}
+use Rattle.realisations.specs.Lists.{is_among}
 use Rattle.realisations.specs.Standardisation.{count_same}
 use Rattle.realisations.specs.Tableaux.{Entered, enter_row, enter, enter_all, insertion_tableau, row_of, tableau_code}
 use Rattle.basis_representatives.proofs.Counts.{among_some, count_same-append, one_if-self}
@@ -13,7 +13,7 @@ use Rattle.basis_representatives.proofs.Entries.{apart-count, count_option, coun
 use Rattle.basis_representatives.proofs.Permutations.{HasEachOnce, count_same-permutation}
 use Rattle.basis_representatives.proofs.RowByRow.{Above, RisingRow}
 use Rattle.coproduct_laws.specs.ValueCuts.{letters_up_to}
-use Rattle.coproduct_laws.proofs.CutLetters.{count_up_to, counted}
+use Rattle.coproduct_laws.proofs.CutLetters.{count_up_to}
 use Rattle.tableau_laws.proofs.NumberedRows.{map_range_alike}
 
 -- each row rises

@@ -131,7 +131,7 @@ le_least n = grind (arith, nat_tests)
 not_more : (n : ℕ) → nat_le (suc n) 0 ≡ false
 not_more n = grind (arith, nat_tests)
 
--- a block of n equal letters i, with greater ones behind it
+-- a block of n equal letters i, with greater ones after it
 block : (n i : ℕ) (v y : List ℕ) → BeginsAbove i y
     → rises_at_descents v (replicate n i ++ y) ≡ (nat_le n (length v) && (is_nondecreasing (take n v) && rises_at_descents (drop n v) y))
 block zero i v y h = ap (λ b. b && rises_at_descents v y) (sym (le_least (length v)))

@@ -1,14 +1,13 @@
 -- The product of two fundamental quasi-symmetric functions.
-use Rattle.std.proofs.Common.{◌≡◌, ℕ, zero, suc, ◌+◌, ◌*◌, ◌^◌, ◌≤◌, Bool, true, false, List, [], ◌∷◌, ◌++◌, map, length, take, drop, refl, sym, ◌∙◌, ap, subst, arith}
+use Rattle.std.proofs.Common.{◌≡◌, ℕ, suc, ◌+◌, ◌*◌, ◌^◌, ◌≤◌, Bool, List, [], ◌∷◌, map, length, take, drop, refl, sym, ◌∙◌, ap, subst, arith}
 use Rattle.std.proofs.Math.IntN.{pos, ◌*ℤ◌}
-use Rattle.std.specs.Prelude.{nat_eq, nat_lt, nat_le, ◌&&◌, if◌then◌else◌, replicate}
+use Rattle.std.specs.Prelude.{nat_eq, nat_le, ◌&&◌, replicate}
 use Rattle.std.specs.List.{sum}
 use Rattle.std.proofs.Math.Nat.{pow-le-pow_right}
 use Rattle.std.proofs.lemmas.Bool.{ne_eqb}
-use Rattle.std.proofs.lemmas.List.{append-nil, length-append, length-map, length-replicate}
-use Rattle.std.proofs.lemmas.Bool.Decides.{nat_tests}
+use Rattle.std.proofs.lemmas.List.{length-append, length-map}
 use Rattle.basis_names.specs.declared.bases.BasisId.TheVariants.{QsymF}
-use Rattle.realisations.specs.Descents.{longer_first, descent_composition, word_of_composition}
+use Rattle.realisations.specs.Descents.{descent_composition, word_of_composition}
 use Rattle.realisations.specs.Exponents.{number_cuts, exponent_cuts}
 use Rattle.realisations.specs.IndexKinds.{IsComposition}
 use Rattle.realisations.specs.Lists.{one_if}

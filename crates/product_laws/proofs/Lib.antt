@@ -1,5 +1,6 @@
 pub mod AddedElements
 pub mod AddingElements
+pub mod AllClasses
 pub mod ChosenCodes
 pub mod ClassProducts
 pub mod ClassRules

@@ -1,5 +1,5 @@
 -- A list in canonical order of the codes with a property holds each of them once.
-use Rattle.std.proofs.Common.{◌≡◌, ℕ, zero, suc, ◌+◌, ◌<◌, ◌≤◌, Bool, true, false, List, [], ◌∷◌, length, get_or, refl, sym, ◌∙◌, ap, arith, inl, inr}
+use Rattle.std.proofs.Common.{◌≡◌, zero, suc, ◌+◌, ◌≤◌, Bool, true, false, List, [], ◌∷◌, refl, sym, ◌∙◌, ap, arith, inl, inr}
 use Rattle.std.specs.List.{AllByRecursion}
 use Rattle.std.specs.Ordering.{nat_cmp, ordering_reverse}
 use Rattle.std.specs.declared.cmp.Ordering.{Ordering}
@@ -39,7 +39,7 @@ times_in-once code [] ordered (i, lt, is) = absurd (omega (arith, lt))
 times_in-once code (c ∷ codes) ordered (zero, lt, is) =
     let here : one_if (same_list code c) ≡ 1 = ap one_if (ap (λ d. same_list d c) (sym is) ∙ same_list-self c) in
     let none : times_in code codes ≡ 0 = times_in-none code codes
-        (λ l. not_before_itself c ((ap (slice_cmp nat_cmp c) (is ∙ sym l.2)) ∙ ordered 0 (suc l.0) (omega arith) (omega (arith, l.1)))) in
+    (λ l. not_before_itself c ((ap (slice_cmp nat_cmp c) (is ∙ sym l.2)) ∙ ordered 0 (suc l.0) (omega arith) (omega (arith, l.1)))) in
     omega (arith, here, none)
 times_in-once code (c ∷ codes) ordered (suc i, lt, is) =
     by_test (same_list code c) refl (times_in-once code codes (in_order-rest c codes ordered) (i, omega (arith, lt), is))

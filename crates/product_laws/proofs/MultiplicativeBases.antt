@@ -61,7 +61,7 @@ subset_alike test c k k' (x ∷ y ∷ w) d d' e same =
 abbrev fits : Neighbours → List ℕ → List ℕ → Bool
 fits test code p = nat_eq (length p) (sum code) && is_subset (places_where test 1 p) (descent_set code)
 
--- two words with the sizes of two compositions fit where both do, one behind the other
+-- two words with the sizes of two compositions fit where both do, one after the other
 sets-append : (test : Neighbours) (i j u v : List ℕ) → length u ≡ sum i → length v ≡ sum j
     → is_subset (places_where test 1 (u ++ v)) (descent_set (i ++ j)) ≡ (is_subset (places_where test 1 u) (descent_set i) && is_subset (places_where test 1 v) (descent_set j))
 sets-append test [] j [] v eu ev = refl
@@ -133,7 +133,7 @@ fits-append test i j p = elim (cases_eq (length p) (sum (i ++ j))) [
 
 -- the complement
 
--- places behind k are at least k
+-- places after k are at least k
 pub none_before : (test : Neighbours) (k a : ℕ) (w : List ℕ) → a < k → is_among a (places_where test k w) ≡ false
 none_before test k a [] h = refl
 none_before test k a (x ∷ []) h = refl

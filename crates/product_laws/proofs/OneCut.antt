@@ -3,7 +3,7 @@ use Rattle.std.proofs.Common.{◌≡◌, ℕ, zero, suc, List, [], ◌∷◌, ma
 use Rattle.realisations.specs.Words.{word_cuts}
 use Rattle.realisations.proofs.Sums.{sums, sums-map, sums_none}
 
--- a function of two words that is 0 unless the first one has m letters sums to its value at the cut behind m letters
+-- a function of two words that is 0 unless the first one has m letters sums to its value at the cut after m letters
 pub one_cut : (m : ℕ) (f : List ℕ → List ℕ → ℕ) → ((u v : List ℕ) → (length u ≡ m → ⊥) → f u v ≡ 0) → (p : List ℕ)
     → sums (λ (c : List ℕ × List ℕ). f c.0 c.1) (word_cuts p) ≡ f (take m p) (drop m p)
 one_cut zero f none [] = omega arith

@@ -8,7 +8,7 @@ use Rattle.realisations.specs.Descents.{partial_sums}
 use Rattle.realisations.specs.Lists.{is_among}
 use Rattle.product_laws.proofs.Parts.{HasPart, sum-cons}
 
--- partial sums behind s are at least s
+-- partial sums after s are at least s
 pub none_below : (parts : List ℕ) (s a : ℕ) → a < s → is_among a (partial_sums s parts) ≡ false
 none_below [] s a h = refl
 none_below (i ∷ []) s a h = refl
@@ -37,7 +37,7 @@ sum_among (i ∷ []) (j ∷ k) s a some some' e =
 sum_among (i ∷ j ∷ parts) k s a some some' e =
     or_right (nat_eq (s + i) a) (is_among a (partial_sums (s + i) (j ∷ (parts ++ k)))) (sum_among (j ∷ parts) k (s + i) a tt some' (omega (arith, e, sum-cons i (j ∷ parts))))
 
--- above it they are those of the second composition, behind this sum
+-- above it they are those of the second composition, after this sum
 pub sums_after : (parts k : List ℕ) (s t a : ℕ) → HasPart parts → HasPart k → t ≡ s + sum parts → t < a → is_among a (partial_sums s (parts ++ k)) ≡ is_among a (partial_sums t k)
 sums_after [] k s t a some some' e h = absurd some
 sums_after (i ∷ []) [] s t a some some' e h = absurd some'
@@ -49,7 +49,7 @@ sums_after (i ∷ j ∷ parts) k s t a some some' e h =
     no_first (s + i) a (is_among a (partial_sums (s + i) (j ∷ (parts ++ k)))) (λ f. omega (arith, f, h, e, sum-cons i (j ∷ parts)))
     ∙ sums_after (j ∷ parts) k (s + i) t a tt some' (omega (arith, e, sum-cons i (j ∷ parts))) h
 
--- partial sums behind a larger sum are larger
+-- partial sums after a larger sum are larger
 pub sums_raised : (parts : List ℕ) (c s t a b : ℕ) → t ≡ c + s → b ≡ c + a → is_among b (partial_sums t parts) ≡ is_among a (partial_sums s parts)
 sums_raised [] c s t a b e f = refl
 sums_raised (i ∷ []) c s t a b e f = refl

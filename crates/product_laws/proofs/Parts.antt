@@ -1,4 +1,4 @@
--- Parts of compositions: their sums, and what stands before and behind a sum.
+-- Parts of compositions: their sums, and what stands before and after a sum.
 use Rattle.std.proofs.Common.{◌≡◌, ℕ, suc, ◌+◌, ◌-◌, ◌<◌, true, false, List, [], ◌∷◌, ◌++◌, length, refl, sym, ap, arith}
 use Rattle.std.specs.Prelude.{nat_eq, nat_lt, if◌then◌else◌}
 use Rattle.std.specs.List.{sum}
@@ -26,7 +26,7 @@ abbrev pub front_parts : ℕ → List ℕ → List ℕ
 front_parts n [] = []
 front_parts n (i ∷ parts) = if nat_lt i n then i ∷ front_parts (n - i) parts else n ∷ []
 
--- the parts behind a sum n
+-- the parts after a sum n
 abbrev pub back_parts : ℕ → List ℕ → List ℕ
 back_parts n [] = []
 back_parts n (i ∷ parts) = if nat_lt i n then back_parts (n - i) parts else (if nat_eq i n then parts else (i - n) ∷ parts)

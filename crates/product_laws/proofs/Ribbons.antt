@@ -52,7 +52,7 @@ next_step true false (i ∷ a) (j ∷ b) some some' = refl
 next_step false false (i ∷ []) (j ∷ b) some some' = ap (λ m. m ∷ b) (omega arith)
 next_step false false (i ∷ h ∷ a) (j ∷ b) some some' = refl
 
--- the descent composition of a concatenation of nonempty words: that of the second behind that of the first, joined where there is no descent between them
+-- the descent composition of a concatenation of nonempty words: that of the second after that of the first, joined where there is no descent between them
 pub descent_composition-append : (x : ℕ) (u : List ℕ) (y : ℕ) (v : List ℕ)
     → descent_composition ((x ∷ u) ++ (y ∷ v))
     ≡ (if nat_lt y (last_letter x u) then descent_composition (x ∷ u) ++ descent_composition (y ∷ v) else near_concatenation (descent_composition (x ∷ u)) (descent_composition (y ∷ v)))

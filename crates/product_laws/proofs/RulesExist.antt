@@ -1,6 +1,6 @@
 -- Each product of two elements of a basis, but of QSym.M, has a rule of these, and so an answer.
-use Rattle.std.proofs.Common.{◌≡◌, ℕ, suc, ◌+◌, ◌≤◌, IsTrue, List, [], ◌∷◌, ◌++◌, length, refl, sym, ◌∙◌, ap, subst, arith}
-use Rattle.std.specs.List.{concat, range_with_len}
+use Rattle.std.proofs.Common.{◌≡◌, ℕ, suc, ◌+◌, ◌≤◌, List, ◌∷◌, length, refl, sym, ◌∙◌, ap, subst, arith}
+use Rattle.std.specs.List.{concat}
 use Rattle.std.proofs.lemmas.List.{length-append}
 use Rattle.std.proofs.lemmas.List.FromFn.{length-map-range_with_len}
 use Rattle.basis_names.specs.declared.bases.BasisId.{BasisId}
@@ -19,7 +19,7 @@ use Rattle.basis_representatives.proofs.TableauCodes.{rows_of-code}
 use Rattle.basis_representatives.proofs.TreeCodes.{length-tree_code}
 use Rattle.basis_representatives.proofs.TreesOfCodes.{tree_of-code}
 use Rattle.std.proofs.lemmas.Bool.{and_parts}
-use Rattle.realisations.specs.IndexKinds.{is_permutation, is_standard_tableau}
+use Rattle.realisations.specs.IndexKinds.{is_permutation}
 use Rattle.realisations.specs.Tableaux.{is_increasing}
 use Rattle.std.specs.Prelude.{drop, take}
 use Rattle.product_laws.specs.Laws.{ExistenceLaw}

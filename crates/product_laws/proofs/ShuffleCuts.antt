@@ -1,4 +1,4 @@
--- The shuffles of two words, cut behind n letters: shuffles of their fronts, and of their backs.
+-- The shuffles of two words, cut after n letters: shuffles of their fronts, and of their backs.
 use Rattle.std.proofs.Common.{◌≡◌, ℕ, zero, suc, ◌+◌, ◌*◌, List, [], ◌∷◌, map, length, take, drop, sym, ◌∙◌, ap, arith, zero-add}
 use Rattle.std.specs.Prelude.{nat_le}
 use Rattle.std.proofs.lemmas.Bool.Decides.{nat_tests}
@@ -49,7 +49,7 @@ shuffles_none : (f : List ℕ → ℕ) (u : List ℕ) → sums f (shuffles u [])
 shuffles_none f [] = omega arith
 shuffles_none f (x ∷ u) = omega arith
 
--- what a shuffle counts as, cut behind n letters
+-- what a shuffle counts as, cut after n letters
 abbrev pub shuffle_term : ℕ → (List ℕ → ℕ) → (List ℕ → ℕ) → List ℕ → ℕ
 shuffle_term n f g w = one_if (nat_le n (length w)) * (f (take n w) * g (drop n w))
 
@@ -103,7 +103,7 @@ kinds_joined f g x u y v n (suc i) (suc j) e =
     join : (a a' b b' p q s r : ℕ) → a' ≡ a → b' ≡ b → s ≡ p + q → a * b' * (p * r) + a' * b * (q * r) ≡ a' * b' * (s * r)
     join a a' b b' p q s r ea eb es = rw (ea, eb, es) (omega arith)
 
--- the shuffles, cut behind n letters, are the shuffles of fronts with n letters together, and of their backs
+-- the shuffles, cut after n letters, are the shuffles of fronts with n letters together, and of their backs
 pub cut_shuffles : (n : ℕ) (f g : List ℕ → ℕ) (u v : List ℕ)
     → sums (shuffle_term n f g) (shuffles u v) ≡ over_cuts n (cut_term f g u v)
 cut_shuffles zero f g u v =

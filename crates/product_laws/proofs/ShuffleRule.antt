@@ -1,16 +1,15 @@
 -- The rule of the product of FQSym.F: the shifted shuffles.
-use Rattle.std.proofs.Common.{◌≡◌, ℕ, zero, suc, ◌+◌, ◌-◌, ◌*◌, ◌<◌, ◌≤◌, ◌^◌, Bool, true, false, IsTrue, List, [], ◌∷◌, map, length, take, drop, refl, sym, ◌∙◌, ap, subst, arith, inl, inr}
+use Rattle.std.proofs.Common.{◌≡◌, ℕ, ◌+◌, ◌-◌, ◌*◌, ◌≤◌, ◌^◌, Bool, true, false, IsTrue, List, [], ◌∷◌, length, drop, refl, sym, ◌∙◌, ap, subst, arith, inl, inr}
 use Rattle.std.specs.Prelude.{nat_eq, nat_le, ◌&&◌}
-use Rattle.std.specs.List.{AllByRecursion}
 use Rattle.std.proofs.Math.Nat.{pow-le-pow_right}
 use Rattle.std.proofs.lemmas.Bool.{cases_lt}
 use Rattle.std.proofs.lemmas.Bool.Decides.{nat_tests}
 use Rattle.std.proofs.lemmas.List.{length-map}
 use Rattle.basis_names.specs.declared.bases.BasisId.TheVariants.{FqsymF}
 use Rattle.realisations.specs.IndexKinds.{is_permutation}
-use Rattle.realisations.specs.Lists.{same_list, one_if, count}
+use Rattle.realisations.specs.Lists.{same_list, one_if}
 use Rattle.realisations.specs.Standardisation.{count_same}
-use Rattle.realisations.specs.Words.{greatest, raise, shuffles, shifted_shuffles}
+use Rattle.realisations.specs.Words.{raise, shuffles}
 use Rattle.realisations.proofs.Every.{every-weaker}
 use Rattle.realisations.proofs.RisingMaps.{Letters}
 use Rattle.realisations.proofs.Sums.{sums}
@@ -22,7 +21,7 @@ use Rattle.coproduct_laws.proofs.CutLetters.{greatest-permutation}
 use Rattle.coproduct_laws.proofs.LowAndHigh.{high_past, high_raised, same_list-raise}
 use Rattle.coproduct_laws.proofs.ShuffleCounts.{shuffle_count}
 use Rattle.word_laws.specs.AddedCodes.{times_in}
-use Rattle.product_laws.specs.Classes.{IsByClasses, splits_into}
+use Rattle.product_laws.specs.Classes.{IsByClasses}
 use Rattle.product_laws.specs.Laws.{ShuffleLaw}
 use Rattle.product_laws.specs.Products.{IsProductRule}
 use Rattle.product_laws.proofs.ClassProducts.{indices_read}

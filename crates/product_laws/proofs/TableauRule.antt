@@ -1,23 +1,23 @@
 -- The rule of the product of FSym.S: the standard tableaux whose front and back are the factors.
-use Rattle.std.proofs.Common.{◌≡◌, ℕ, zero, suc, ◌+◌, ◌-◌, ◌<◌, ◌≤◌, Bool, true, false, IsTrue, List, [], ◌∷◌, ◌++◌, map, length, take, drop, min, refl, sym, ◌∙◌, ap, subst, arith, inl, inr}
+use Rattle.std.proofs.Common.{◌≡◌, ℕ, suc, ◌-◌, ◌≤◌, IsTrue, List, [], ◌∷◌, map, length, take, drop, refl, sym, ◌∙◌, ap, arith, inl, inr}
 use Rattle.std.specs.Prelude.{nat_le, nat_lt, ◌&&◌, if◌then◌else◌}
-use Rattle.std.specs.List.{concat, filter, range_with_len}
+use Rattle.std.specs.List.{concat}
 use Rattle.std.proofs.lemmas.Bool.{cases_lt}
 use Rattle.std.proofs.lemmas.Bool.Decides.{nat_tests}
-use Rattle.std.proofs.lemmas.List.{drop_all, length-take, length-drop, take_all}
+use Rattle.std.proofs.lemmas.List.{length-take, take_all}
 use Rattle.std.proofs.lemmas.List.FromFn.{length-map-range_with_len}
 use Rattle.basis_names.specs.declared.bases.BasisId.TheVariants.{FsymS}
-use Rattle.realisations.specs.IndexKinds.{IsTableauCode, is_permutation, is_standard_tableau}
-use Rattle.realisations.specs.Standardisation.{inverse, standardise}
-use Rattle.realisations.specs.Tableaux.{insertion_tableau, reading_word, recording_tableau, row_of, rows_of, tableau_code}
+use Rattle.realisations.specs.IndexKinds.{IsTableauCode, is_permutation}
+use Rattle.realisations.specs.Standardisation.{standardise}
+use Rattle.realisations.specs.Tableaux.{insertion_tableau, recording_tableau, row_of, rows_of, tableau_code}
 use Rattle.realisations.proofs.RisingMaps.{Letters}
 use Rattle.basis_representatives.proofs.AllRepresentatives.{class_laws}
 use Rattle.basis_representatives.proofs.Entries.{length-enter_all}
 use Rattle.basis_representatives.proofs.PackedWords.{letters_to_greatest}
 use Rattle.basis_representatives.proofs.Permutations.{HasEachOnce, permutation_from, letters-permutation, letters_that_occur}
 use Rattle.basis_representatives.proofs.TableauCodes.{rows_of-code}
-use Rattle.coproduct_laws.specs.ValueCuts.{letters_up_to, letters_past, lower}
-use Rattle.tableau_laws.specs.Intervals.{letters_between, restricted, tableau_between}
+use Rattle.coproduct_laws.specs.ValueCuts.{letters_up_to, letters_past}
+use Rattle.tableau_laws.specs.Intervals.{letters_between, restricted}
 use Rattle.tableau_laws.specs.LatticeWords.{IsLatticeWord}
 use Rattle.tableau_laws.proofs.LatticeColumns.{greatest-lattice}
 use Rattle.tableau_laws.proofs.LatticeWords.{lattice-tableau_code}

@@ -1,13 +1,12 @@
 -- The rule of the product of PBT.P: the trees whose front and back are the factors.
-use Rattle.std.proofs.Common.{◌≡◌, ℕ, zero, suc, ◌+◌, ◌<◌, ◌≤◌, Bool, true, false, List, [], ◌∷◌, ◌++◌, length, take, drop, min, refl, sym, ◌∙◌, ap, subst, arith}
+use Rattle.std.proofs.Common.{◌≡◌, ℕ, zero, suc, ◌≤◌, Bool, true, false, List, [], ◌∷◌, length, take, drop, min, refl, sym, ◌∙◌, ap, subst, arith}
 use Rattle.std.specs.Prelude.{nat_lt, if◌then◌else◌}
 use Rattle.basis_names.specs.declared.bases.BasisId.TheVariants.{PbtP}
 use Rattle.realisations.specs.IndexKinds.{IsTreeCode}
 use Rattle.realisations.specs.Trees.{Tree, empty, node, tree_size, tree_code, decreasing_tree}
-use Rattle.realisations.proofs.RisingMaps.{Letters}
 use Rattle.basis_representatives.proofs.AllRepresentatives.{class_laws}
 use Rattle.basis_representatives.proofs.CodesByLetters.{decreasing_code, smaller_next}
-use Rattle.basis_representatives.proofs.Letters.{Letters-append, Letters-weaker}
+use Rattle.basis_representatives.proofs.Letters.{Letters-append}
 use Rattle.basis_representatives.proofs.TreeCodes.{code-decreasing_tree, length-decreasing_code, length-tree_code}
 use Rattle.product_laws.specs.Classes.{IsByClasses}
 use Rattle.product_laws.specs.Laws.{TreeLaw}

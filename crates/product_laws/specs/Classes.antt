@@ -1,5 +1,5 @@
 -- Class bases of words: each word is in one class, and an element occurs at the words of its class.
-use Rattle.std.specs.Prelude.{◌≡◌, ℕ, Bool, ◌&&◌, List, length, take, drop}
+use Rattle.std.specs.Prelude.{◌≡◌, ℕ, Bool, ◌&&◌, length, take, drop}
 use Rattle.basis_names.specs.declared.bases.BasisId.{BasisId}
 use Rattle.realisations.specs.Bases.{kind_of}
 use Rattle.realisations.specs.Codes.{Code}

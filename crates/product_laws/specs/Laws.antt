@@ -1,15 +1,19 @@
 -- Laws of products, by rules on indices. Public functions with empty bodies ensure them (`src/laws.rt`).
-use Rattle.std.specs.Prelude.{◌≡◌, ℕ, ◌+◌, ◌≤◌, List, [], ◌∷◌, ◌++◌, length}
+use Rattle.std.specs.Prelude.{◌≡◌, ℕ, pos, ◌+◌, ◌≤◌, List, [], ◌∷◌, ◌++◌, length, take, drop}
 use Rattle.basis_names.specs.declared.bases.BasisId.{BasisId}
 use Rattle.basis_names.specs.declared.bases.BasisId.TheVariants.{FqsymF, FqsymG, FsymS, NcsfL, NcsfR, NcsfS, PbtP, QsymF, QsymM, WqsymM}
 use Rattle.realisations.specs.Answers.{IsAnswer}
 use Rattle.realisations.specs.Codes.{Code}
-use Rattle.realisations.specs.Combinations.{Combination, IsCanonical, norm_of}
+use Rattle.realisations.specs.Combinations.{AddsTerm, Combination, IsCanonical, norm_of}
 use Rattle.realisations.specs.Indices.{IsIndex, degree_of}
 use Rattle.realisations.specs.Lists.{one_if}
 use Rattle.realisations.specs.Points.{Point}
-use Rattle.realisations.specs.Readings.{element, product}
+use Rattle.realisations.specs.Readings.{Terms, element, product}
+use Rattle.realisations.specs.Standardisation.{inverse, pack, standardise}
+use Rattle.realisations.specs.Tableaux.{recording_tableau, tableau_code}
+use Rattle.realisations.specs.Trees.{decreasing_tree, tree_code}
 use Rattle.realisations.specs.Words.{shifted_shuffles}
+use Rattle.coproduct_laws.specs.ValueCuts.{letters_past, letters_up_to, lower}
 use Rattle.linear_combos.specs.CodeLists.{ListsEach}
 use Rattle.word_laws.specs.AddedCodes.{times_in}
 use Rattle.word_laws.specs.Merges.{IsConvolution, IsMerge}
@@ -18,8 +22,8 @@ use Rattle.product_laws.specs.Classes.{IsByClasses, splits_into}
 use Rattle.product_laws.specs.FundamentalProducts.{fundamental_products}
 use Rattle.product_laws.specs.Products.{IsProduct, IsProductRule}
 use Rattle.product_laws.specs.Ribbons.{ribbon_products}
-use Rattle.product_laws.specs.TableauCuts.{IsTableauProduct}
-use Rattle.product_laws.specs.TreeCuts.{IsTreeProduct}
+use Rattle.product_laws.specs.TableauCuts.{back_tableau, IsTableauProduct}
+use Rattle.product_laws.specs.TreeCuts.{front_code, IsTreeProduct}
 
 -- over a class basis of words, codes that hold each index once where its front and its back are those of two factors, and else not, read as the product
 abbrev pub ClassLaw : Type 0
@@ -27,6 +31,14 @@ ClassLaw = (basis : BasisId) (class_of : Point → Code) (front back : ℕ → C
     (left right : Code) (codes : List Code) →
     ((code : Code) → IsIndex basis code → times_in code codes ≡ one_if (splits_into front back (degree_of basis left) left right code)) →
     IsProduct basis left right codes
+
+-- five bases are by classes of words: G of permutations by standardisation, F by its inverse, M of packed words by packing, S of tableaux by recording tableau, P of trees by decreasing tree; with the fronts and backs of their indices
+pub record ClassesLaw : Type 0 where
+  pub standardisations : IsByClasses FqsymG (λ p. standardise p) (λ n s. standardise (take n s)) (λ n s. standardise (drop n s))
+  pub inverses : IsByClasses FqsymF (λ p. inverse (standardise p)) (λ n s. letters_up_to n s) (λ n s. lower n (letters_past n s))
+  pub packings : IsByClasses WqsymM (λ p. pack p) (λ n u. pack (take n u)) (λ n u. pack (drop n u))
+  pub tableaux : IsByClasses FsymS (λ p. tableau_code (recording_tableau p)) (λ n code. take n code) (λ n code. back_tableau n code)
+  pub trees : IsByClasses PbtP (λ p. tree_code (decreasing_tree p)) (λ n code. front_code n code) (λ n code. drop n code)
 
 -- F of I times F of J is the sum of F of C(w) over the shuffles w of a word with descent composition I and one with descent composition J on higher letters (Gessel 1984)
 abbrev pub FundamentalLaw : Type 0
@@ -65,6 +77,12 @@ TreeLaw = (s t : Code) (codes : List Code) → length s + length t ≤ 32 → Li
 abbrev pub IsProductAnswer : BasisId → Code → Code → Combination → Type 0
 IsProductAnswer basis left right c =
     IsAnswer (basis ∷ []) (degree_of basis left + degree_of basis right) (product (element basis left) (element basis right)) c
+
+-- the elements of a product rule are added one by one, or one list after another: no element by nothing, one as a term with numerator 1, and two lists one after the other
+pub record AddingLaw : Type 0 where
+  pub none : (ts : Terms) → AddsElements ts ts []
+  pub one : (old new : Terms) (code : Code) → AddsTerm old new (pos 1) (code ∷ []) → AddsElements old new (code ∷ [])
+  pub append : (old mid new : Terms) (first second : List Code) → AddsElements old mid first → AddsElements mid new second → AddsElements old new (first ++ second)
 
 -- a canonical combination of rank 1 over 1, to which the codes of a product rule were added, each once, and whose norm is at most their number, is the answer
 abbrev pub AnswerLaw : Type 0

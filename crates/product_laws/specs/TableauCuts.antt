@@ -1,5 +1,5 @@
 -- The code of a standard tableau, cut after some of its numbers.
-use Rattle.std.specs.Prelude.{◌≡◌, ℕ, suc, List, [], ◌∷◌, length, take, refl}
+use Rattle.std.specs.Prelude.{◌≡◌, ℕ, suc, [], ◌∷◌, length, take, refl}
 use Rattle.realisations.specs.Codes.{Code}
 use Rattle.realisations.specs.IndexKinds.{IsTableauCode}
 use Rattle.realisations.specs.Tableaux.{rows_of, tableau_code}

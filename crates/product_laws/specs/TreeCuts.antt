@@ -1,5 +1,5 @@
 -- The code of a binary tree, cut after some of its nodes.
-use Rattle.std.specs.Prelude.{◌≡◌, ℕ, zero, suc, min, List, [], ◌∷◌, length, drop, refl}
+use Rattle.std.specs.Prelude.{◌≡◌, ℕ, zero, suc, min, [], ◌∷◌, length, drop, refl}
 use Rattle.realisations.specs.Codes.{Code}
 use Rattle.realisations.specs.IndexKinds.{IsTreeCode}
 

@@ -1,5 +1,5 @@
 //! Laws of products. A function here computes nothing: callers cite its clause.
-ghost use Rattle.product_laws.specs.Laws.{ClassLaw, FundamentalLaw, RibbonLaw, ConcatenationLaw, ShuffleLaw, ConvolutionLaw, MergeLaw, TableauLaw, TreeLaw, AnswerLaw, GatheringLaw, ExistenceLaw};
+ghost use Rattle.product_laws.specs.Laws.{ClassLaw, ClassesLaw, FundamentalLaw, RibbonLaw, ConcatenationLaw, ShuffleLaw, ConvolutionLaw, MergeLaw, TableauLaw, TreeLaw, AddingLaw, AnswerLaw, GatheringLaw, ExistenceLaw};
 
 /// Over a class basis of words, the product of two elements is the sum over the indices whose front and
 /// back are those of the factors.
@@ -7,6 +7,15 @@ ghost use Rattle.product_laws.specs.Laws.{ClassLaw, FundamentalLaw, RibbonLaw, C
 /// Nothing is computed: callers cite the clause.
 pub fn class_law()
     ensures { ClassLaw }
+{}
+
+/// Five bases are class bases of words: both bases of `FQSym` (Duchamp, Hivert, Thibon 2002), `WQSym.M`
+/// (Hivert 1999), `FSym.S` (Poirier, Reutenauer 1995) and `PBT.P` (Hivert, Novelli, Thibon 2005). The
+/// law says what the front and the back of their indices are.
+///
+/// Nothing is computed: callers cite the clause.
+pub fn classes_law()
+    ensures { ClassesLaw }
 {}
 
 /// The product of two fundamental quasi-symmetric functions is the sum over the shuffles of two words
@@ -75,6 +84,14 @@ pub fn tableau_law()
 /// Nothing is computed: callers cite the clause.
 pub fn tree_law()
     ensures { TreeLaw }
+{}
+
+/// The elements of a product rule may be added one by one, each as a term with numerator 1, or one list
+/// after another.
+///
+/// Nothing is computed: callers cite the clause.
+pub fn adding_law()
+    ensures { AddingLaw }
 {}
 
 /// A combination to which the codes of a product rule were added, each once, is the answer of the
