@@ -29,5 +29,7 @@ pub mod SortedLists
 pub mod SortedPlaces
 pub mod TableauRule
 pub mod Tests
+pub mod TreeParts
+pub mod TreeRecursion
 pub mod TreeRule
 pub mod Units

@@ -6,3 +6,4 @@ pub mod Products
 pub mod Ribbons
 pub mod TableauCuts
 pub mod TreeCuts
+pub mod TreeProducts
