@@ -6,6 +6,7 @@ use Rattle.std.proofs.Math.Nat.{mul_comm, pow-zero, pow-suc, pow-le-pow_left}
 use Rattle.std.proofs.lemmas.Nat.{pow-add}
 use Rattle.std.proofs.lemmas.Bool.{cases_lt, eq-eqb, ne_eqb}
 use Rattle.std.proofs.lemmas.List.{length-append, length-map}
+use Rattle.std.proofs.lemmas.List.FromFn.{length-range_with_len}
 use Rattle.realisations.specs.Lists.{same_list, one_if}
 use Rattle.realisations.proofs.Every.{every-append, every-map}
 use Rattle.realisations.proofs.RisingMaps.{Letters}
@@ -33,16 +34,12 @@ length-with_first [] ws = omega arith
 length-with_first (x ∷ xs) ws =
     omega (arith, length-append (map (λ w. x ∷ w) ws) (with_first xs ws), length-map ws (λ w. x ∷ w), length-with_first xs ws)
 
-length-range : (a n : ℕ) → length (range_with_len a n) ≡ n
-length-range a zero = refl
-length-range a (suc n) = omega (arith, length-range (a + 1) n)
-
 -- there are m^n of them
 pub length-all_words : (m n : ℕ) → length (all_words m n) ≡ m ^ n
 length-all_words m zero = sym (pow-zero m)
 length-all_words m (suc n) =
     length-with_first (range_with_len 1 m) (all_words m n)
-    ∙ (λ i. length-range 1 m i * length-all_words m n i)
+    ∙ (λ i. length-range_with_len 1 m i * length-all_words m n i)
     ∙ mul_comm m (m ^ n)
     ∙ sym (pow-suc m n)
 
@@ -92,16 +89,17 @@ pub every_word : (m n : ℕ) → AllByRecursion (λ w. AreUpTo m w × (length w 
 every_word m zero = ((tt, refl), tt)
 every_word m (suc n) = words_with_first m n 1 m (all_words m n) (omega arith) (omega arith) (every_word m n)
 
--- the words of a list that are in another one are as many, counted either way
-over_one : (c : List ℕ) (ws : List (List ℕ)) → sums (λ w. one_if (same_list w c)) ws ≡ times_in c ws
-over_one c [] = refl
-over_one c (w ∷ ws) = omega (arith, ap one_if (same_list-sym w c), over_one c ws)
+-- how often a word is listed, by the test turned round
+pub times_in-turned : (c : List ℕ) (ws : List (List ℕ)) → sums (λ w. one_if (same_list w c)) ws ≡ times_in c ws
+times_in-turned c [] = refl
+times_in-turned c (w ∷ ws) = omega (arith, ap one_if (same_list-sym w c), times_in-turned c ws)
 
+-- the words of a list that are in another one are as many, counted either way
 swapped : (codes ws : List (List ℕ)) → sums (λ w. times_in w codes) ws ≡ sums (λ c. times_in c ws) codes
 swapped [] ws = sums_none (λ w. times_in w []) (λ w. refl) ws
 swapped (c ∷ codes) ws =
     sums-add (λ w. one_if (same_list w c)) (λ w. times_in w codes) ws
-    ∙ (λ i. over_one c ws i + swapped codes ws i)
+    ∙ (λ i. times_in-turned c ws i + swapped codes ws i)
 
 at_most_one : (f : List ℕ → ℕ) → ((w : List ℕ) → f w ≤ 1) → (ws : List (List ℕ)) → sums f ws ≤ length ws
 at_most_one f h [] = omega arith

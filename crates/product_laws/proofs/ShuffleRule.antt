@@ -12,9 +12,8 @@ use Rattle.realisations.specs.Standardisation.{count_same}
 use Rattle.realisations.specs.Words.{raise, shuffles}
 use Rattle.realisations.proofs.Every.{every-weaker}
 use Rattle.realisations.proofs.RisingMaps.{Letters}
-use Rattle.realisations.proofs.Sums.{sums}
 use Rattle.basis_representatives.proofs.Letters.{Letters-weaker}
-use Rattle.basis_representatives.proofs.Permutations.{HasEachOnce, each_once, permutation_from, letters-permutation, letters_that_occur}
+use Rattle.basis_representatives.proofs.Permutations.{HasEachOnce, each_once, permutation_from, letters-permutation}
 use Rattle.basis_representatives.proofs.SameLists.{cons_same, one_if-and, same_list-sym}
 use Rattle.coproduct_laws.specs.ValueCuts.{letters_up_to, letters_past, lower}
 use Rattle.coproduct_laws.proofs.CutLetters.{greatest-permutation}
@@ -25,6 +24,8 @@ use Rattle.product_laws.specs.Classes.{IsByClasses}
 use Rattle.product_laws.specs.Laws.{ShuffleLaw}
 use Rattle.product_laws.specs.Products.{IsProductRule}
 use Rattle.product_laws.proofs.ClassProducts.{indices_read}
+use Rattle.product_laws.proofs.CutRules.{letters_of_permutation}
+use Rattle.product_laws.proofs.DistinctWords.{times_in-turned}
 use Rattle.product_laws.proofs.EveryShuffle.{CountsAsBoth, counts_of_shuffles, few_shuffles}
 use Rattle.product_laws.proofs.SortedPlaces.{sorted_places, permutation-sorted_places, length-sorted_places, front_places, back_places}
 
@@ -48,23 +49,16 @@ by_inverses = record {
   backs = λ n p point. lowered_places n p;
 }
 
-times_in-sums : (w : List ℕ) (ws : List (List ℕ)) → times_in w ws ≡ sums (λ v. one_if (same_list v w)) ws
-times_in-sums w [] = refl
-times_in-sums w (v ∷ ws) = omega (arith, ap one_if (same_list-sym w v), times_in-sums w ws)
-
 -- a word is a shuffle of s and t raised past n once where its letters up to n are s, and its others, lowered, are t
 times_in-shuffled : (n : ℕ) (s t : List ℕ) → Letters (λ x. x ≤ n) s → Letters (λ x. 1 ≤ x) t → (w : List ℕ)
     → times_in w (shuffles s (raise n t)) ≡ one_if (same_list (letters_up_to n w) s && same_list (lower n (letters_past n w)) t)
 times_in-shuffled n s t low positive w =
-    times_in-sums w (shuffles s (raise n t))
+    sym (times_in-turned w (shuffles s (raise n t)))
     ∙ shuffle_count n s (raise n t) low (high_raised n t positive) w
     ∙ (λ i. one_if (same_list-sym s (letters_up_to n w) i) * one_if ((same_list-raise n t (letters_past n w) (high_past n w) ∙ same_list-sym t (lower n (letters_past n w))) i))
     ∙ sym (one_if-and (same_list (letters_up_to n w) s) (same_list (lower n (letters_past n w)) t))
 
--- the letters of a permutation
-within : (s : List ℕ) → HasEachOnce s → Letters (λ x. (1 ≤ x) × (x ≤ length s)) s
-within s h = letters_that_occur (λ x. (1 ≤ x) × (x ≤ length s)) s (letters-permutation s h)
-
+-- a number that is out of its range is no letter of a permutation
 absent : (s : List ℕ) → HasEachOnce s → (i : ℕ) → ((1 ≤ i) × (i ≤ length s) → ⊥) → count_same i s ≡ 0
 absent s h i out = elim (cases_lt 0 (count_same i s)) [
   | inl some ↦ absurd (out (letters-permutation s h i some))
@@ -109,8 +103,8 @@ pub shuffle_rule : ShuffleLaw
 shuffle_rule s t hs ht = subst (λ n. IsProductRule FqsymF s t (shuffles s (raise n t))) (sym (greatest-permutation s (each_once s hs))) record {
   reads = λ p point. indices_read FqsymF (λ p. sorted_places p) (λ n c. letters_up_to n c) (λ n c. lower n (letters_past n c)) by_inverses s t (shuffles s (raise (length s) t))
       (λ w is. times_in-shuffled (length s) s t
-      (Letters-weaker (λ x. (1 ≤ x) × (x ≤ length s)) (λ x. x ≤ length s) (λ x h. h.1) s (within s (each_once s hs)))
-      (Letters-weaker (λ x. (1 ≤ x) × (x ≤ length t)) (λ x. 1 ≤ x) (λ x h. h.0) t (within t (each_once t ht))) w) p point;
+      (Letters-weaker (λ x. (1 ≤ x) × (x ≤ length s)) (λ x. x ≤ length s) (λ x h. h.1) s (letters_of_permutation s hs))
+      (Letters-weaker (λ x. (1 ≤ x) × (x ≤ length t)) (λ x. 1 ≤ x) (λ x h. h.0) t (letters_of_permutation t ht)) w) p point;
   indices = every-weaker (CountsAsBoth s (raise (length s) t)) _ (shuffled_permutation s t (each_once s hs) (each_once t ht))
       (shuffles s (raise (length s) t)) (counts_of_shuffles s (raise (length s) t));
   few =

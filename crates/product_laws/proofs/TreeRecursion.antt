@@ -1,6 +1,6 @@
 -- The product of two binary trees by their roots lists each tree whose front and back they are once.
-use Rattle.std.proofs.Common.{◌≡◌, ◌⊎◌, ℕ, zero, suc, ◌+◌, ◌*◌, ◌-◌, ◌^◌, ◌<◌, ◌≤◌, Bool, true, false, List, [], ◌∷◌, ◌++◌, map, length, drop, refl, sym, ◌∙◌, ap, subst, arith, inl, inr}
-use Rattle.std.specs.Prelude.{min, nat_le, ◌&&◌, if◌then◌else◌}
+use Rattle.std.proofs.Common.{◌≡◌, ℕ, zero, suc, ◌+◌, ◌*◌, ◌-◌, ◌^◌, ◌<◌, ◌≤◌, Bool, true, false, List, [], ◌∷◌, map, length, drop, refl, sym, ◌∙◌, ap, subst, arith, inl, inr}
+use Rattle.std.specs.Prelude.{nat_le, ◌&&◌, if◌then◌else◌}
 use Rattle.std.specs.List.{AllByRecursion}
 use Rattle.std.proofs.Math.Nat.{pow-le-pow_right}
 use Rattle.std.proofs.lemmas.Bool.{and_parts, cases_lt}
@@ -172,7 +172,6 @@ codes_count v ts =
     sums-map (λ code. one_if (same_list (tree_code v) code)) tree_code ts
     ∙ sums_same (λ u. one_if (same_list (tree_code v) (tree_code u))) (λ u. one_if (same_tree v u)) (λ u. ap one_if (same_codes v u)) ts
 
-
 -- the code of a tree is there once where its front and back are the factors, and else not
 times_in-products : (t u v : Tree) → times_in (tree_code v) (map tree_code (tree_products t u))
     ≡ one_if (same_list (front_code (length (tree_code t)) (tree_code v)) (tree_code t) && same_list (drop (length (tree_code t)) (tree_code v)) (tree_code u))
@@ -242,7 +241,6 @@ few_trees (suc n) (node a b) (node c d) le =
       few_trees n b (node c d) (omega (arith, le)),
       few_trees n (node a b) c (omega (arith, le)),
     )
-
 
 pub tree_recursion : TreeRecursionLaw
 tree_recursion t u = record {

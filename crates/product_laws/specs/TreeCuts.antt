@@ -19,6 +19,6 @@ pub record IsTreeProduct (s t code : Code) : Type 0 where
 pub front_code-211 : front_code 2 (2 ∷ 1 ∷ 1 ∷ []) ≡ 2 ∷ 1 ∷ []
 front_code-211 = refl
 
--- of 321, three nodes on the right, the first one forms 1
+-- of 321, a root with a right child that has a right child, the first node forms 1
 pub front_code-321 : front_code 1 (3 ∷ 2 ∷ 1 ∷ []) ≡ 1 ∷ []
 front_code-321 = refl
