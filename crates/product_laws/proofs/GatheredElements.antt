@@ -1,17 +1,17 @@
--- A product rule has a combination that is its answer.
-use Rattle.std.proofs.Common.{◌≡◌, ℕ, zero, suc, ◌+◌, ◌*◌, ◌^◌, ◌<◌, ◌≤◌, List, [], ◌∷◌, map, length, inl, inr, refl, subst, arith, unsigned_abs}
+-- The sum of the elements of a product rule is its answer, and there is one.
+use Rattle.std.proofs.Common.{◌≡◌, ℕ, zero, suc, ◌+◌, ◌*◌, ◌^◌, ◌<◌, ◌≤◌, List, [], ◌∷◌, map, length, inl, inr, refl, subst, arith, sym, unsigned_abs}
 use Rattle.std.proofs.Math.IntN.{ℤ, pos}
 use Rattle.std.proofs.Math.Nat.{pow-le-pow_right}
 use Rattle.std.proofs.lemmas.Int.{ints}
 use Rattle.std.proofs.lemmas.List.Elements.{All-map}
 use Rattle.std.proofs.lemmas.List.Sums.{sum_by-cons}
-use Rattle.realisations.specs.Combinations.{Combination, HasKey, norm_of, term_at, weighed}
+use Rattle.realisations.specs.Combinations.{AreTerms, IsLowest, Combination, HasKey, norm_of, term_at, weighed}
 use Rattle.realisations.specs.Indices.{degree_of}
 use Rattle.realisations.specs.Lists.{int_sum}
 use Rattle.linear_combos.proofs.Edits.{lowest_one}
 use Rattle.linear_combos.proofs.Gathering.{gathered}
 use Rattle.product_laws.specs.AddedElements.{AddsElements, IsCodeOf}
-use Rattle.product_laws.specs.Laws.{GatheringLaw}
+use Rattle.product_laws.specs.Laws.{GatheringLaw, SumLaw}
 use Rattle.product_laws.specs.Products.{terms_of_codes}
 use Rattle.product_laws.proofs.AddedElements.{answers}
 
@@ -34,15 +34,21 @@ key_at (c ∷ codes) (suc i) lt = inr (key_at codes i (omega (arith, lt)))
 keys-codes : (codes : List (List ℕ)) (key : List (List ℕ)) → HasKey (terms_of_codes codes) key → IsCodeOf codes key
 keys-codes codes key has = subst (λ k. IsCodeOf codes k) has.2 (key_at codes has.0 has.1)
 
+-- the sum of the elements of a product rule is its answer
+pub sums_answer : SumLaw
+sums_answer basis left right codes c rule is =
+    let adds : AddsElements [] c.terms codes = record {
+      weighs = λ weight. omega (arith, ints, is.gathers.weighs weight, weighed-codes weight codes);
+      keys = λ key has. inr (keys-codes codes key (is.gathers.keys key has));
+    } in
+    let ordered : AreTerms c.rank c.terms = subst (λ rank. AreTerms rank c.terms) (sym is.rank_is) is.gathers.terms in
+    let lowest : IsLowest c.den c.terms = subst (λ den. IsLowest den c.terms) (sym is.whole) (lowest_one c.terms) in
+    answers basis left right codes c rule (record { ordered = ordered; lowest = lowest }) is.rank_is is.whole (omega (arith, norm_of-codes codes, is.gathers.norm)) adds
+
 pub gathers : GatheringLaw
 gathers basis left right codes rule small =
-    let size = norm_of-codes codes in
     let bound : 2 ^ (5 * (degree_of basis left + degree_of basis right)) ≤ 2 ^ 125 =
     pow-le-pow_right {n = 2} (omega arith) {i = 5 * (degree_of basis left + degree_of basis right)} {j = 125} (omega (arith, small)) in
-    let g = gathered 1 (terms_of_codes codes) (length-codes codes) (omega (arith, size, rule.few, bound)) in
+    let g = gathered 1 (terms_of_codes codes) (length-codes codes) (omega (arith, norm_of-codes codes, rule.few, bound)) in
     let c : Combination = record { rank = 1; den = 1; terms = g.0 } in
-    let adds : AddsElements [] g.0 codes = record {
-      weighs = λ weight. omega (arith, ints, g.1.weighs weight, weighed-codes weight codes);
-      keys = λ key has. inr (keys-codes codes key (g.1.keys key has));
-    } in
-    (c, answers basis left right codes c rule (record { ordered = g.1.terms; lowest = lowest_one g.0 }) refl refl (omega (arith, size, g.1.norm)) adds)
+    (c, sums_answer basis left right codes c rule (record { rank_is = refl; whole = refl; gathers = g.1 }))

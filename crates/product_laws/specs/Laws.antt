@@ -15,12 +15,13 @@ use Rattle.realisations.specs.Trees.{Tree, decreasing_tree, tree_code}
 use Rattle.realisations.specs.Words.{shifted_shuffles}
 use Rattle.coproduct_laws.specs.ValueCuts.{letters_past, letters_up_to, lower}
 use Rattle.linear_combos.specs.CodeLists.{ListsEach}
+use Rattle.linear_combos.specs.Combos.{IsSumOfTerms}
 use Rattle.word_laws.specs.AddedCodes.{AddsEach, times_in}
 use Rattle.word_laws.specs.Merges.{IsConvolution, IsMerge}
 use Rattle.product_laws.specs.AddedElements.{AddsElements}
 use Rattle.product_laws.specs.Classes.{IsByClasses, splits_into}
 use Rattle.product_laws.specs.FundamentalProducts.{fundamental_products}
-use Rattle.product_laws.specs.Products.{IsProduct, IsProductRule}
+use Rattle.product_laws.specs.Products.{IsProduct, IsProductRule, terms_of_codes}
 use Rattle.product_laws.specs.Ribbons.{ribbon_products}
 use Rattle.product_laws.specs.TableauCuts.{back_tableau, IsTableauProduct}
 use Rattle.product_laws.specs.TreeCuts.{front_code, IsTreeProduct}
@@ -99,6 +100,11 @@ abbrev pub AnswerLaw : Type 0
 AnswerLaw = (basis : BasisId) (left right : Code) (codes : List Code) (c : Combination) → IsProductRule basis left right codes →
     IsCanonical c.rank c.den c.terms → c.rank ≡ 1 → c.den ≡ 1 → norm_of c.terms ≤ length codes → AddsElements [] c.terms codes →
     IsProductAnswer basis left right c
+
+-- the combination that gathers the elements of the codes of a product rule, in any order, is the answer
+abbrev pub SumLaw : Type 0
+SumLaw = (basis : BasisId) (left right : Code) (codes : List Code) (c : Combination) → IsProductRule basis left right codes →
+    IsSumOfTerms 1 (terms_of_codes codes) c → IsProductAnswer basis left right c
 
 -- a product rule of degree at most 25 has a combination that is its answer, whatever memory there is
 abbrev pub GatheringLaw : Type 0

@@ -1,5 +1,5 @@
 //! Laws of products. A function here computes nothing: callers cite its clause.
-ghost use Rattle.product_laws.specs.Laws.{ClassLaw, ClassesLaw, FundamentalLaw, RibbonLaw, ConcatenationLaw, ShuffleLaw, ConvolutionLaw, MergeLaw, TableauLaw, TreeLaw, TreeRecursionLaw, AddingLaw, AnswerLaw, GatheringLaw, ExistenceLaw};
+ghost use Rattle.product_laws.specs.Laws.{ClassLaw, ClassesLaw, FundamentalLaw, RibbonLaw, ConcatenationLaw, ShuffleLaw, ConvolutionLaw, MergeLaw, TableauLaw, TreeLaw, TreeRecursionLaw, AddingLaw, AnswerLaw, SumLaw, GatheringLaw, ExistenceLaw};
 
 /// Over a class basis of words, the product of two elements is the sum over the indices whose front and
 /// back are those of the factors.
@@ -108,6 +108,14 @@ pub fn adding_law()
 /// Nothing is computed: callers cite the clause.
 pub fn answer_law()
     ensures { AnswerLaw }
+{}
+
+/// The combination that gathers the elements of the codes of a product rule, in any order, is the answer
+/// of the product.
+///
+/// Nothing is computed: callers cite the clause.
+pub fn sum_law()
+    ensures { SumLaw }
 {}
 
 /// A product rule of degree at most 25 has a combination that is its answer, so a contract that speaks
