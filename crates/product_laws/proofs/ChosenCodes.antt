@@ -34,7 +34,8 @@ times_in-sum : (w : List ℕ) (ws : List (List ℕ)) → times_in w ws ≡ sums 
 times_in-sum w [] = refl
 times_in-sum w (v ∷ ws) = omega (arith, times_in-sum w ws)
 
-length-filter : (test : List ℕ → Bool) (ws : List (List ℕ)) → length (filter test ws) ≤ length ws
+-- no more are left than there were
+pub length-filter : (test : List ℕ → Bool) (ws : List (List ℕ)) → length (filter test ws) ≤ length ws
 length-filter test [] = omega arith
 length-filter test (p ∷ ws) = by_test (test p) (length-filter test ws)
   where

@@ -10,6 +10,7 @@ pub mod CutTableaux
 pub mod DistinctWords
 pub mod ElementProducts
 pub mod EveryShuffle
+pub mod FilteredIndices
 pub mod FundamentalFits
 pub mod FundamentalProducts
 pub mod GatheredElements

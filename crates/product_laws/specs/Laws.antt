@@ -1,8 +1,10 @@
 -- Laws of products, by rules on indices. Public functions with empty bodies ensure them (`src/laws.rt`).
 use Rattle.std.specs.Prelude.{◌≡◌, ℕ, pos, ◌+◌, ◌≤◌, List, [], ◌∷◌, ◌++◌, length, map, take, drop}
+use Rattle.std.specs.List.{filter}
 use Rattle.basis_names.specs.declared.bases.BasisId.{BasisId}
 use Rattle.basis_names.specs.declared.bases.BasisId.TheVariants.{FqsymF, FqsymG, FsymS, NcsfL, NcsfR, NcsfS, PbtP, QsymF, QsymM, WqsymM}
 use Rattle.realisations.specs.Answers.{IsAnswer}
+use Rattle.realisations.specs.Bases.{index_kind_of}
 use Rattle.realisations.specs.Codes.{Code}
 use Rattle.realisations.specs.Combinations.{AddsTerm, Combination, IsCanonical, norm_of}
 use Rattle.realisations.specs.Indices.{IsIndex, degree_of}
@@ -14,7 +16,7 @@ use Rattle.realisations.specs.Tableaux.{recording_tableau, tableau_code}
 use Rattle.realisations.specs.Trees.{Tree, decreasing_tree, tree_code}
 use Rattle.realisations.specs.Words.{shifted_shuffles}
 use Rattle.coproduct_laws.specs.ValueCuts.{letters_past, letters_up_to, lower}
-use Rattle.linear_combos.specs.CodeLists.{ListsEach}
+use Rattle.linear_combos.specs.CodeLists.{ListsEach, ListsIndices}
 use Rattle.linear_combos.specs.Combos.{IsSumOfTerms}
 use Rattle.word_laws.specs.AddedCodes.{AddsEach, times_in}
 use Rattle.word_laws.specs.Merges.{IsConvolution, IsMerge}
@@ -41,6 +43,20 @@ pub record ClassesLaw : Type 0 where
   pub packings : IsByClasses WqsymM (λ p. pack p) (λ n u. pack (take n u)) (λ n u. pack (drop n u))
   pub tableaux : IsByClasses FsymS (λ p. tableau_code (recording_tableau p)) (λ n code. take n code) (λ n code. back_tableau n code)
   pub trees : IsByClasses PbtP (λ p. tree_code (decreasing_tree p)) (λ n code. front_code n code) (λ n code. drop n code)
+
+-- from all indices of the degree n of a product, each once in canonical order, n at most 32, those whose front and back are the factors are a rule
+abbrev pub IsFilterRule : BasisId → (ℕ → Code → Code) → (ℕ → Code → Code) → Type 0
+IsFilterRule basis front back = (left right : Code) (codes : List Code) → degree_of basis left + degree_of basis right ≤ 32 →
+    ListsIndices (index_kind_of basis) (degree_of basis left + degree_of basis right) codes →
+    IsProductRule basis left right (filter (λ code. splits_into front back (degree_of basis left) left right code) codes)
+
+-- so it is over the five class bases of words
+pub record FilterLaw : Type 0 where
+  pub standardisations : IsFilterRule FqsymG (λ n s. standardise (take n s)) (λ n s. standardise (drop n s))
+  pub inverses : IsFilterRule FqsymF (λ n s. letters_up_to n s) (λ n s. lower n (letters_past n s))
+  pub packings : IsFilterRule WqsymM (λ n u. pack (take n u)) (λ n u. pack (drop n u))
+  pub tableaux : IsFilterRule FsymS (λ n code. take n code) (λ n code. back_tableau n code)
+  pub trees : IsFilterRule PbtP (λ n code. front_code n code) (λ n code. drop n code)
 
 -- F of I times F of J is the sum of F of C(w) over the shuffles w of a word with descent composition I and one with descent composition J on higher letters (Gessel 1984)
 abbrev pub FundamentalLaw : Type 0

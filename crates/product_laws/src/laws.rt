@@ -1,5 +1,5 @@
 //! Laws of products. A function here computes nothing: callers cite its clause.
-ghost use Rattle.product_laws.specs.Laws.{ClassLaw, ClassesLaw, FundamentalLaw, RibbonLaw, ConcatenationLaw, ShuffleLaw, ConvolutionLaw, MergeLaw, TableauLaw, TreeLaw, TreeRecursionLaw, AddingLaw, AnswerLaw, SumLaw, GatheringLaw, ExistenceLaw};
+ghost use Rattle.product_laws.specs.Laws.{ClassLaw, ClassesLaw, FilterLaw, FundamentalLaw, RibbonLaw, ConcatenationLaw, ShuffleLaw, ConvolutionLaw, MergeLaw, TableauLaw, TreeLaw, TreeRecursionLaw, AddingLaw, AnswerLaw, SumLaw, GatheringLaw, ExistenceLaw};
 
 /// Over a class basis of words, the product of two elements is the sum over the indices whose front and
 /// back are those of the factors.
@@ -16,6 +16,14 @@ pub fn class_law()
 /// Nothing is computed: callers cite the clause.
 pub fn classes_law()
     ensures { ClassesLaw }
+{}
+
+/// Over each of these five bases a product is a filter of all indices of its degree: of those whose front
+/// and back are the factors.
+///
+/// Nothing is computed: callers cite the clause.
+pub fn filter_law()
+    ensures { FilterLaw }
 {}
 
 /// The product of two fundamental quasi-symmetric functions is the sum over the shuffles of two words
