@@ -1,12 +1,13 @@
 -- Each product of two elements of a class basis has a rule: the classes of the representatives among all words whose front and back are the factors.
-use Rattle.std.proofs.Common.{◌≡◌, ℕ, suc, ◌+◌, ◌*◌, ◌≤◌, Bool, true, false, List, [], ◌∷◌, map, length, refl, sym, ◌∙◌, ap, subst, arith}
+use Rattle.std.proofs.Common.{◌≡◌, ℕ, ◌+◌, ◌*◌, ◌≤◌, Bool, true, false, List, [], ◌∷◌, map, length, refl, sym, ◌∙◌, ap, subst, arith}
 use Rattle.std.specs.Prelude.{◌&&◌, if◌then◌else◌}
-use Rattle.std.specs.List.{AllByRecursion, filter}
+use Rattle.std.specs.List.{filter}
 use Rattle.std.proofs.lemmas.List.{length-map}
 use Rattle.basis_names.specs.declared.bases.BasisId.{BasisId}
 use Rattle.realisations.specs.Bases.{representative}
 use Rattle.realisations.specs.Indices.{IsIndex, degree_of}
 use Rattle.realisations.specs.Lists.{same_list, one_if}
+use Rattle.realisations.proofs.Every.{every-map}
 use Rattle.realisations.proofs.Sums.{sums, sums_same, sums-scale}
 use Rattle.basis_representatives.specs.Laws.{AreClasses}
 use Rattle.basis_representatives.proofs.Letters.{Letters-weaker}
@@ -17,6 +18,7 @@ use Rattle.product_laws.specs.Products.{IsProductRule}
 use Rattle.product_laws.proofs.ClassProducts.{indices_read}
 use Rattle.product_laws.proofs.ClassRules.{class_of-representative, degree_of-split}
 use Rattle.product_laws.proofs.DistinctWords.{AreUpTo, all_words, every_word, length-all_words, self_power, times_in-all_words}
+use Rattle.product_laws.proofs.Filters.{every-filter, length-filter}
 use Rattle.product_laws.proofs.Tests.{same_list-is, same_tests}
 
 -- how often a code is among the images of the words that pass a test
@@ -33,24 +35,6 @@ times_in-chosen code test f (p ∷ ws) = by_test (test p) (times_in-chosen code 
 times_in-sum : (w : List ℕ) (ws : List (List ℕ)) → times_in w ws ≡ sums (λ p. one_if (same_list w p)) ws
 times_in-sum w [] = refl
 times_in-sum w (v ∷ ws) = omega (arith, times_in-sum w ws)
-
--- no more are left than there were
-pub length-filter : (test : List ℕ → Bool) (ws : List (List ℕ)) → length (filter test ws) ≤ length ws
-length-filter test [] = omega arith
-length-filter test (p ∷ ws) = by_test (test p) (length-filter test ws)
-  where
-    by_test : (b : Bool) → length (filter test ws) ≤ length ws → length (if b then p ∷ filter test ws else filter test ws) ≤ suc (length ws)
-    by_test true e = omega (arith, e)
-    by_test false e = omega (arith, e)
-
-every-filter : (P Q : List ℕ → Type 0) (test : List ℕ → Bool) (f : List ℕ → List ℕ) → ((p : List ℕ) → test p ≡ true → P p → Q (f p))
-    → (ws : List (List ℕ)) → AllByRecursion P ws → AllByRecursion Q (map f (filter test ws))
-every-filter P Q test f has [] h = tt
-every-filter P Q test f has (p ∷ ws) h = by_test (test p) refl (every-filter P Q test f has ws h.1)
-  where
-    by_test : (b : Bool) → test p ≡ b → AllByRecursion Q (map f (filter test ws)) → AllByRecursion Q (map f (if b then p ∷ filter test ws else filter test ws))
-    by_test true e rest = (has p e h.0, rest)
-    by_test false e rest = rest
 
 module _ (basis : BasisId) (class_of : List ℕ → List ℕ) (front back : ℕ → List ℕ → List ℕ) (by : IsByClasses basis class_of front back) (classes : AreClasses basis)
     (fits : (code : List ℕ) → IsIndex basis code → AreUpTo (degree_of basis code) (representative basis code) × (length (representative basis code) ≡ degree_of basis code))
@@ -114,9 +98,10 @@ module _ (basis : BasisId) (class_of : List ℕ → List ℕ) (front back : ℕ 
     chosen_codes,
     record {
       reads = λ p point. indices_read basis class_of front back by left right chosen_codes chosen_once p point;
-      indices = every-filter (λ p. AreUpTo whole p × (length p ≡ whole)) (λ code. IsIndex basis code × (degree_of basis code ≡ whole)) (λ p. is_chosen p) class_of
-          (λ p chosen h. (by.index p (Letters-weaker (λ x. (1 ≤ x) × (x ≤ whole)) (λ x. 1 ≤ x) (λ x k. k.0) p h.0), by.degree p ∙ h.1))
-          (all_words whole whole) (every_word whole whole);
+      indices = every-map (λ p. AreUpTo whole p × (length p ≡ whole)) (λ code. IsIndex basis code × (degree_of basis code ≡ whole)) class_of
+          (λ p h. (by.index p (Letters-weaker (λ x. (1 ≤ x) × (x ≤ whole)) (λ x. 1 ≤ x) (λ x k. k.0) p h.0), by.degree p ∙ h.1))
+          (filter (λ p. is_chosen p) (all_words whole whole))
+          (every-filter (λ p. AreUpTo whole p × (length p ≡ whole)) (λ p. is_chosen p) (all_words whole whole) (every_word whole whole));
       few = omega (
         arith,
         length-map (filter (λ p. is_chosen p) (all_words whole whole)) class_of,

@@ -1,18 +1,16 @@
 -- A product over a class basis is a filter of all indices of the degree, by their fronts and backs.
-use Rattle.std.proofs.Common.{◌≡◌, ℕ, ◌+◌, ◌*◌, Bool, true, false, List, [], ◌∷◌, length, take, drop, refl, sym, ◌∙◌, ap, subst, arith, zero-add}
-use Rattle.std.specs.Prelude.{if◌then◌else◌}
-use Rattle.std.specs.List.{AllByRecursion, filter}
+use Rattle.std.proofs.Common.{◌≡◌, ℕ, ◌+◌, ◌*◌, Bool, true, false, List, length, take, drop, refl, ◌∙◌, subst, arith}
+use Rattle.std.specs.List.{filter}
 use Rattle.basis_names.specs.declared.bases.BasisId.{BasisId}
 use Rattle.basis_names.specs.declared.bases.BasisId.TheVariants.{FqsymF, FqsymG, FsymS, PbtP, WqsymM}
 use Rattle.realisations.specs.Bases.{index_kind_of}
 use Rattle.realisations.specs.Indices.{IsIndex, degree_of}
-use Rattle.realisations.specs.Lists.{same_list, one_if}
+use Rattle.realisations.specs.Lists.{one_if}
 use Rattle.realisations.specs.Standardisation.{pack, standardise}
 use Rattle.realisations.specs.Tableaux.{recording_tableau, tableau_code}
 use Rattle.realisations.specs.Trees.{decreasing_tree, tree_code}
 use Rattle.basis_representatives.specs.Laws.{AreClasses}
 use Rattle.basis_representatives.proofs.AllRepresentatives.{class_laws}
-use Rattle.basis_representatives.proofs.SameLists.{same_list-true}
 use Rattle.coproduct_laws.specs.ValueCuts.{letters_past, letters_up_to, lower}
 use Rattle.word_laws.specs.AddedCodes.{times_in}
 use Rattle.linear_combos.specs.CodeLists.{ListsIndices}
@@ -20,53 +18,16 @@ use Rattle.product_laws.specs.Classes.{IsByClasses, splits_into}
 use Rattle.product_laws.specs.Laws.{FilterLaw, IsFilterRule}
 use Rattle.product_laws.specs.TableauCuts.{back_tableau}
 use Rattle.product_laws.specs.TreeCuts.{front_code}
-use Rattle.product_laws.proofs.ChosenCodes.{length-filter}
 use Rattle.product_laws.proofs.ClassProducts.{indices_read}
 use Rattle.product_laws.proofs.ClassRules.{degree_of-split}
 use Rattle.product_laws.proofs.CutRules.{by_packings, by_standardisations, letters_of_packed, letters_of_permutation}
 use Rattle.product_laws.proofs.DistinctWords.{AreUpTo, few_distinct, self_power}
+use Rattle.product_laws.proofs.Filters.{every-filter, length-filter, times_in-filter}
 use Rattle.product_laws.proofs.ListedOnce.{each_listed, times_in-at_most, times_in-once}
 use Rattle.product_laws.proofs.ShuffleRule.{by_inverses}
 use Rattle.product_laws.proofs.SortedPlaces.{sorted_places}
 use Rattle.product_laws.proofs.TableauRule.{by_tableaux, letters_of_tableau}
 use Rattle.product_laws.proofs.TreeRule.{by_trees, letters_of_code}
-
--- a code that passes is in the filter as often as before, and one that does not is not
-times_in-filter : (code : List ℕ) (test : List ℕ → Bool) (codes : List (List ℕ)) → times_in code (filter test codes) ≡ one_if (test code) * times_in code codes
-times_in-filter code test [] = omega arith
-times_in-filter code test (c ∷ codes) = by_tests (test c) refl (same_list code c) refl (times_in-filter code test codes)
-  where
-    kept : (a b : Bool) (n k : ℕ) → a ≡ true → n ≡ one_if a * k → one_if b + n ≡ one_if a * (one_if b + k)
-    kept true b n k e f = omega (arith, f)
-    kept false b n k e f = absurd (cc)
-
-    left_out : (a : Bool) (n k : ℕ) → a ≡ false → n ≡ one_if a * k → n ≡ one_if a * (1 + k)
-    left_out true n k e f = absurd (cc)
-    left_out false n k e f = omega (arith, f)
-
-    other : (a : Bool) (n k : ℕ) → n ≡ one_if a * k → n ≡ one_if a * (0 + k)
-    other true n k f = omega (arith, f)
-    other false n k f = omega (arith, f)
-
-    by_tests : (b : Bool) → test c ≡ b → (d : Bool) → same_list code c ≡ d → times_in code (filter test codes) ≡ one_if (test code) * times_in code codes
-        → times_in code (if b then c ∷ filter test codes else filter test codes) ≡ one_if (test code) * (one_if (same_list code c) + times_in code codes)
-    by_tests true e true f rest = kept (test code) (same_list code c) _ _ (ap test (same_list-true code c f) ∙ e) rest
-    by_tests true e false f rest =
-        (λ i. one_if (f i) + times_in code (filter test codes)) ∙ zero-add (times_in code (filter test codes)) ∙ rest ∙ other (test code) _ (times_in code codes) refl
-        ∙ (λ i. one_if (test code) * (one_if (sym f i) + times_in code codes))
-    by_tests false e true f rest =
-        left_out (test code) _ (times_in code codes) (ap test (same_list-true code c f) ∙ e) rest
-        ∙ (λ i. one_if (test code) * (one_if (sym f i) + times_in code codes))
-    by_tests false e false f rest =
-        other (test code) _ (times_in code codes) rest ∙ (λ i. one_if (test code) * (one_if (sym f i) + times_in code codes))
-
-every-filtered : (P Q : List ℕ → Type 0) (test : List ℕ → Bool) → ((c : List ℕ) → test c ≡ true → P c → Q c) → (codes : List (List ℕ)) → AllByRecursion P codes → AllByRecursion Q (filter test codes)
-every-filtered P Q test has [] h = tt
-every-filtered P Q test has (c ∷ codes) h = by_test (test c) refl (every-filtered P Q test has codes h.1)
-  where
-    by_test : (b : Bool) → test c ≡ b → AllByRecursion Q (filter test codes) → AllByRecursion Q (if b then c ∷ filter test codes else filter test codes)
-    by_test true e rest = (has c e h.0, rest)
-    by_test false e rest = rest
 
 module _ (basis : BasisId) (class_of : List ℕ → List ℕ) (front back : ℕ → List ℕ → List ℕ) (by : IsByClasses basis class_of front back) (classes : AreClasses basis)
     (letters : (code : List ℕ) → IsIndex basis code → AreUpTo (degree_of basis code) code × (length code ≡ degree_of basis code)) where
@@ -91,7 +52,7 @@ module _ (basis : BasisId) (class_of : List ℕ → List ℕ) (front back : ℕ 
       (times_in-at_most codes lists.in_order) in
       record {
         reads = λ p point. indices_read basis class_of front back by left right (filter (λ c. splits_into front back (degree_of basis left) left right c) codes) (filtered_once left right codes lists) p point;
-        indices = every-filtered (λ c. IsIndex basis c × (degree_of basis c ≡ n)) (λ c. IsIndex basis c × (degree_of basis c ≡ n)) (λ c. splits_into front back (degree_of basis left) left right c) (λ c e h. h) codes
+        indices = every-filter (λ c. IsIndex basis c × (degree_of basis c ≡ n)) (λ c. splits_into front back (degree_of basis left) left right c) codes
             (each_listed (λ c. IsIndex basis c × (degree_of basis c ≡ n)) (λ c. IsIndex basis c × (degree_of basis c ≡ n)) codes lists.each (λ c h. h));
         few = omega (arith, length-filter (λ c. splits_into front back (degree_of basis left) left right c) codes, all, self_power n small);
       }

@@ -11,6 +11,7 @@ pub mod DistinctWords
 pub mod ElementProducts
 pub mod EveryShuffle
 pub mod FilteredIndices
+pub mod Filters
 pub mod FundamentalFits
 pub mod FundamentalProducts
 pub mod GatheredElements
