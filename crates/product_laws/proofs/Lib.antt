@@ -32,6 +32,6 @@ pub mod SortedPlaces
 pub mod TableauRule
 pub mod Tests
 pub mod TreeParts
-pub mod TreeRecursion
+pub mod TreeRoots
 pub mod TreeRule
 pub mod Units

@@ -1,5 +1,5 @@
 -- Laws of products, by rules on indices. Public functions with empty bodies ensure them (`src/laws.rt`).
-use Rattle.std.specs.Prelude.{◌≡◌, ℕ, pos, ◌+◌, ◌≤◌, List, [], ◌∷◌, ◌++◌, length, map, take, drop}
+use Rattle.std.specs.Prelude.{◌≡◌, ℕ, pos, ◌+◌, ◌≤◌, List, [], ◌∷◌, ◌++◌, length, take, drop}
 use Rattle.std.specs.List.{filter}
 use Rattle.basis_names.specs.declared.bases.BasisId.{BasisId}
 use Rattle.basis_names.specs.declared.bases.BasisId.TheVariants.{FqsymF, FqsymG, FsymS, NcsfL, NcsfR, NcsfS, PbtP, QsymF, QsymM, WqsymM}
@@ -13,12 +13,12 @@ use Rattle.realisations.specs.Points.{Point}
 use Rattle.realisations.specs.Readings.{Terms, element, product}
 use Rattle.realisations.specs.Standardisation.{inverse, pack, standardise}
 use Rattle.realisations.specs.Tableaux.{recording_tableau, tableau_code}
-use Rattle.realisations.specs.Trees.{Tree, decreasing_tree, tree_code}
+use Rattle.realisations.specs.Trees.{Tree, decreasing_tree, tree_code, tree_size}
 use Rattle.realisations.specs.Words.{shifted_shuffles}
 use Rattle.coproduct_laws.specs.ValueCuts.{letters_past, letters_up_to, lower}
 use Rattle.linear_combos.specs.CodeLists.{ListsEach, ListsIndices}
 use Rattle.linear_combos.specs.Combos.{IsSumOfTerms}
-use Rattle.word_laws.specs.AddedCodes.{AddsEach, times_in}
+use Rattle.word_laws.specs.AddedCodes.{times_in}
 use Rattle.word_laws.specs.Merges.{IsConvolution, IsMerge}
 use Rattle.product_laws.specs.AddedElements.{AddsElements}
 use Rattle.product_laws.specs.Classes.{IsByClasses, splits_into}
@@ -27,7 +27,7 @@ use Rattle.product_laws.specs.Products.{IsProduct, IsProductRule, terms_of_codes
 use Rattle.product_laws.specs.Ribbons.{ribbon_products}
 use Rattle.product_laws.specs.TableauCuts.{back_tableau, IsTableauProduct}
 use Rattle.product_laws.specs.TreeCuts.{front_code, IsTreeProduct}
-use Rattle.product_laws.specs.TreeProducts.{tree_products}
+use Rattle.product_laws.specs.TreeProducts.{IsCodeInProduct, IsInProduct}
 
 -- over a class basis of words, codes that hold each index once where its front and its back are those of two factors, and else not, read as the product
 abbrev pub ClassLaw : Type 0
@@ -91,14 +91,11 @@ TableauLaw = (a b : Code) (codes : List Code) → length a + length b ≤ 32 →
 abbrev pub TreeLaw : Type 0
 TreeLaw = (s t : Code) (codes : List Code) → length s + length t ≤ 32 → ListsEach (IsTreeProduct s t) codes → IsProductRule PbtP s t codes
 
--- what the product of two trees by their roots owes: it lists each tree whose front and back they are once, and is a rule
-pub record IsTreeRecursion (t u : Tree) (codes : List Code) : Type 0 where
-  pub once : AddsEach (IsTreeProduct (tree_code t) (tree_code u)) [] codes
-  pub rule : IsProductRule PbtP (tree_code t) (tree_code u) codes
-
--- P of T times P of U is the sum of P over the trees that their roots give (Loday, Ronco 1998)
-abbrev pub TreeRecursionLaw : Type 0
-TreeRecursionLaw = (t u : Tree) → IsTreeRecursion t u (map tree_code (tree_products t u))
+-- the trees whose front and back are two others are those of their product by roots, and their codes, at most 32 nodes together, a rule (Loday, Ronco 1998)
+pub record TreeRootsLaw : Type 0 where
+  pub cut : (t u v : Tree) → IsInProduct t u v → IsTreeProduct (tree_code t) (tree_code u) (tree_code v)
+  pub rooted : (t u v : Tree) → IsTreeProduct (tree_code t) (tree_code u) (tree_code v) → IsInProduct t u v
+  pub rule : (t u : Tree) (codes : List Code) → tree_size t + tree_size u ≤ 32 → ListsEach (IsCodeInProduct t u) codes → IsProductRule PbtP (tree_code t) (tree_code u) codes
 
 -- a combination is the answer of the product of two elements
 abbrev pub IsProductAnswer : BasisId → Code → Code → Combination → Type 0

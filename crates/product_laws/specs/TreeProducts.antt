@@ -1,13 +1,15 @@
 -- The product of two binary trees by their roots (Loday, Ronco 1998).
-use Rattle.std.specs.Prelude.{◌≡◌, List, [], ◌∷◌, ◌++◌, map, refl}
-use Rattle.realisations.specs.Trees.{Tree, empty, node}
+use Rattle.std.specs.Prelude.{◌≡◌, ◌⊎◌}
+use Rattle.realisations.specs.Codes.{Code}
+use Rattle.realisations.specs.Trees.{Tree, empty, node, tree_code}
 
--- for T with left A and right B, and U with left C and right D: the trees with left A whose right is in the product of B and U, and those with right D whose left is in the product of T and C
-abbrev pub tree_products : Tree → Tree → List Tree
-tree_products empty u = u ∷ []
-tree_products (node a b) empty = node a b ∷ []
-tree_products (node a b) (node c d) = map (λ x. node a x) (tree_products b (node c d)) ++ map (λ y. node y d) (tree_products (node a b) c)
+-- the third tree is one of the product of the first two: the empty tree is the unit, and the product of T = [A, B] and U = [C, D] has the nodes [A, X] with X of the product of B and U, and the nodes [Y, D] with Y of the product of T and C
+abbrev pub IsInProduct : Tree → Tree → Tree → Type 0
+IsInProduct empty u v = v ≡ u
+IsInProduct (node a b) empty v = v ≡ node a b
+IsInProduct (node a b) (node c d) empty = ⊥
+IsInProduct (node a b) (node c d) (node l r) = ((l ≡ a) × IsInProduct b (node c d) r) ⊎ ((r ≡ d) × IsInProduct (node a b) c l)
 
--- of a node with itself: a right child, or a left one
-pub tree_products-1-1 : tree_products (node empty empty) (node empty empty) ≡ node empty (node empty empty) ∷ node (node empty empty) empty ∷ []
-tree_products-1-1 = refl
+-- the code of one of these
+abbrev pub IsCodeInProduct : Tree → Tree → Code → Type 0
+IsCodeInProduct t u code = (v : Tree) × IsInProduct t u v × (tree_code v ≡ code)

@@ -1,5 +1,5 @@
 //! Laws of products. A function here computes nothing: callers cite its clause.
-ghost use Rattle.product_laws.specs.Laws.{ClassLaw, ClassesLaw, FilterLaw, FundamentalLaw, RibbonLaw, ConcatenationLaw, ShuffleLaw, ConvolutionLaw, MergeLaw, TableauLaw, TreeLaw, TreeRecursionLaw, AddingLaw, AnswerLaw, SumLaw, GatheringLaw, ExistenceLaw};
+ghost use Rattle.product_laws.specs.Laws.{ClassLaw, ClassesLaw, FilterLaw, FundamentalLaw, RibbonLaw, ConcatenationLaw, ShuffleLaw, ConvolutionLaw, MergeLaw, TableauLaw, TreeLaw, TreeRootsLaw, AddingLaw, AnswerLaw, SumLaw, GatheringLaw, ExistenceLaw};
 
 /// Over a class basis of words, the product of two elements is the sum over the indices whose front and
 /// back are those of the factors.
@@ -94,12 +94,13 @@ pub fn tree_law()
     ensures { TreeLaw }
 {}
 
-/// The trees whose front and back are two others are those that their roots give: one root with its left
-/// subtree, or the other with its right one, and a product of what is left (Loday, Ronco 1998).
+/// The trees whose front and back are two others are those of their product by roots: the root of one
+/// with its left subtree, or that of the other with its right one, and a tree of the product of what is
+/// left (Loday, Ronco 1998).
 ///
 /// Nothing is computed: callers cite the clause.
-pub fn tree_recursion_law()
-    ensures { TreeRecursionLaw }
+pub fn tree_roots_law()
+    ensures { TreeRootsLaw }
 {}
 
 /// The elements of a product rule may be added one by one, each as a term with numerator 1, or one list

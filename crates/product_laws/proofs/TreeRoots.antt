@@ -1,29 +1,30 @@
--- The product of two binary trees by their roots lists each tree whose front and back they are once.
-use Rattle.std.proofs.Common.{◌≡◌, ℕ, zero, suc, ◌+◌, ◌*◌, ◌-◌, ◌^◌, ◌<◌, ◌≤◌, Bool, true, false, List, [], ◌∷◌, map, length, drop, refl, sym, ◌∙◌, ap, subst, arith, inl, inr}
+-- The trees of a product of two binary trees by their roots are those whose front and back the two are.
+use Rattle.std.proofs.Common.{◌≡◌, ◌⊎◌, ℕ, suc, ◌+◌, ◌*◌, ◌-◌, ◌<◌, ◌≤◌, Bool, true, false, List, [], ◌∷◌, ◌++◌, map, length, drop, refl, sym, ◌∙◌, ap, subst, arith, inl, inr}
 use Rattle.std.specs.Prelude.{nat_le, ◌&&◌, if◌then◌else◌}
-use Rattle.std.specs.List.{AllByRecursion}
-use Rattle.std.proofs.Math.Nat.{pow-le-pow_right}
 use Rattle.std.proofs.lemmas.Bool.{and_parts, cases_lt}
 use Rattle.std.proofs.lemmas.Bool.Decides.{nat_tests}
-use Rattle.std.proofs.lemmas.List.{length-append, length-map}
-use Rattle.std.proofs.lemmas.Nat.{pow_pos}
 use Rattle.basis_names.specs.declared.bases.BasisId.TheVariants.{PbtP}
-use Rattle.realisations.specs.IndexKinds.{IsTreeCode}
 use Rattle.realisations.specs.Lists.{one_if, same_list}
-use Rattle.realisations.specs.Trees.{Tree, empty, node, tree_size, tree_code, decreasing_tree}
-use Rattle.realisations.proofs.Every.{every-append, every-map}
+use Rattle.realisations.specs.Trees.{Tree, empty, node, tree_size, tree_code}
 use Rattle.realisations.proofs.Sums.{sums, sums-append, sums-map, sums_same, sums_none, sums-scale}
-use Rattle.basis_representatives.proofs.SameLists.{one_if-and, same_list-true}
+use Rattle.basis_representatives.proofs.SameLists.{one_if-and}
 use Rattle.basis_representatives.proofs.TreeCodes.{length-tree_code}
-use Rattle.word_laws.specs.AddedCodes.{AddsEach, times_in}
-use Rattle.product_laws.specs.Laws.{TreeRecursionLaw}
+use Rattle.linear_combos.specs.CodeLists.{ListsEach}
+use Rattle.product_laws.specs.Classes.{splits_into}
+use Rattle.product_laws.specs.Laws.{TreeRootsLaw}
+use Rattle.product_laws.specs.Products.{IsProductRule}
 use Rattle.product_laws.specs.TreeCuts.{front_code, IsTreeProduct}
-use Rattle.product_laws.specs.TreeProducts.{tree_products}
-use Rattle.product_laws.proofs.ClassProducts.{indices_read}
+use Rattle.product_laws.specs.TreeProducts.{IsCodeInProduct, IsInProduct}
 use Rattle.product_laws.proofs.ClassRules.{both_same, same_both}
 use Rattle.product_laws.proofs.Tests.{same_tests}
-use Rattle.product_laws.proofs.TreeParts.{back_tree, back_tree-code, front_tree, front_tree-code, same_codes, same_tree, same_tree-true, tree_size-front_tree}
-use Rattle.product_laws.proofs.TreeRule.{by_trees}
+use Rattle.product_laws.proofs.TreeParts.{back_tree, back_tree-code, front_tree, front_tree-code, same_codes, same_tree, same_tree-is, same_tree-true, tree_size-front_tree}
+use Rattle.product_laws.proofs.TreeRule.{tree_rule}
+
+-- the trees of a product, by their roots
+abbrev tree_products : Tree → Tree → List Tree
+tree_products empty u = u ∷ []
+tree_products (node a b) empty = node a b ∷ []
+tree_products (node a b) (node c d) = map (λ x. node a x) (tree_products b (node c d)) ++ map (λ y. node y d) (tree_products (node a b) c)
 
 -- how often a tree is listed
 abbrev tree_count : Tree → List Tree → ℕ
@@ -167,93 +168,98 @@ count-tree_products (node a b) (node c d) (node l r) =
     by_cut true e = root_after l r a b c d (front_tree (suc (tree_size a + tree_size b)) l) (grind (arith, nat_tests, e))
     by_cut false e = root_before l r a b c d (grind (arith, nat_tests, e))
 
-codes_count : (v : Tree) (ts : List Tree) → times_in (tree_code v) (map tree_code ts) ≡ tree_count v ts
-codes_count v ts =
-    sums-map (λ code. one_if (same_list (tree_code v) code)) tree_code ts
-    ∙ sums_same (λ u. one_if (same_list (tree_code v) (tree_code u))) (λ u. one_if (same_tree v u)) (λ u. ap one_if (same_codes v u)) ts
+-- a tree is listed where it is in the product
 
--- the code of a tree is there once where its front and back are the factors, and else not
-times_in-products : (t u v : Tree) → times_in (tree_code v) (map tree_code (tree_products t u))
-    ≡ one_if (same_list (front_code (length (tree_code t)) (tree_code v)) (tree_code t) && same_list (drop (length (tree_code t)) (tree_code v)) (tree_code u))
-times_in-products t u v =
-    codes_count v (tree_products t u)
-    ∙ count-tree_products t u v
-    ∙ (λ i. one_if (sym (same_codes (front_tree (tree_size t) v) t) i && sym (same_codes (back_tree (tree_size t) v) u) i))
-    ∙ (λ i. one_if (same_list (front_tree-code (tree_size t) v i) (tree_code t) && same_list (back_tree-code (tree_size t) v i) (tree_code u)))
-    ∙ (λ i. one_if (same_list (front_code (sym (length-tree_code t) i) (tree_code v)) (tree_code t) && same_list (drop (sym (length-tree_code t) i) (tree_code v)) (tree_code u)))
+listed : (l a : Tree) → l ≡ a → one_if (same_tree l a) ≡ 1
+listed l a e = ap one_if (same_tree-is l a e)
 
--- a code that is counted is that of a tree
-listed_tree : (code : List ℕ) (ts : List Tree) → 1 ≤ times_in code (map tree_code ts) → IsTreeCode code
-listed_tree code [] some = absurd (omega (arith, some))
-listed_tree code (t ∷ ts) some = by_test (same_list code (tree_code t)) refl (λ k. listed_tree code ts k)
-  where
-    by_test : (b : Bool) → same_list code (tree_code t) ≡ b → (1 ≤ times_in code (map tree_code ts) → IsTreeCode code) → IsTreeCode code
-    by_test true e rest = (t, sym (same_list-true code (tree_code t) e))
-    by_test false e rest = rest (omega (arith, some, ap one_if e))
+count-rooted : (t u v : Tree) → IsInProduct t u v → 1 ≤ tree_count v (tree_products t u)
+count-rooted empty u v h = omega (arith, listed v u h)
+count-rooted (node a b) empty v h = omega (arith, listed v (node a b) h)
+count-rooted (node a b) (node c d) empty h = absurd h
+count-rooted (node a b) (node c d) (node l r) (inl h) =
+    let some : 1 ≤ tree_count r (tree_products b (node c d)) = count-rooted b (node c d) r h.1 in
+    let first : tree_count (node l r) (map (λ x. node a x) (tree_products b (node c d))) ≡ tree_count r (tree_products b (node c d)) =
+    count-left l r a (tree_products b (node c d)) ∙ ap (λ k. k * tree_count r (tree_products b (node c d))) (listed l a h.0) ∙ omega arith in
+    omega (arith, sums-append (λ u. one_if (same_tree (node l r) u)) (map (λ x. node a x) (tree_products b (node c d))) (map (λ y. node y d) (tree_products (node a b) c)), first, some)
+count-rooted (node a b) (node c d) (node l r) (inr h) =
+    let some : 1 ≤ tree_count l (tree_products (node a b) c) = count-rooted (node a b) c l h.1 in
+    let second : tree_count (node l r) (map (λ y. node y d) (tree_products (node a b) c)) ≡ tree_count l (tree_products (node a b) c) =
+    count-right l r d (tree_products (node a b) c) ∙ ap (λ k. k * tree_count l (tree_products (node a b) c)) (listed r d h.0) ∙ omega arith in
+    omega (arith, sums-append (λ u. one_if (same_tree (node l r) u)) (map (λ x. node a x) (tree_products b (node c d))) (map (λ y. node y d) (tree_products (node a b) c)), second, some)
 
-module _ (t u : Tree) where
-  abbrev codes : List (List ℕ)
-  codes = map tree_code (tree_products t u)
+is_listed : (v u : Tree) (b : Bool) → same_tree v u ≡ b → 1 ≤ one_if b + 0 → v ≡ u
+is_listed v u true e some = same_tree-true v u e
+is_listed v u false e some = absurd (omega (arith, some))
 
-  counted : (code : List ℕ) → IsTreeCode code
-      → times_in code codes ≡ one_if (same_list (front_code (length (tree_code t)) code) (tree_code t) && same_list (drop (length (tree_code t)) code) (tree_code u))
-  counted code (v, is) =
-      subst (λ c. times_in c codes ≡ one_if (same_list (front_code (length (tree_code t)) c) (tree_code t) && same_list (drop (length (tree_code t)) c) (tree_code u))) is (times_in-products t u v)
-
-  once : (code : List ℕ) → IsTreeProduct (tree_code t) (tree_code u) code → times_in code codes ≡ 1
-  once code h = counted code h.tree ∙ ap one_if (both_same _ (tree_code t) _ (tree_code u) h.front h.back)
-
-  listed_once : AddsEach (IsTreeProduct (tree_code t) (tree_code u)) [] codes
-  listed_once code = elim (cases_lt 0 (times_in code codes)) [
-    | inl some ↦
-        (let is = listed_tree code (tree_products t u) some in
-        let h = both (same_list (front_code (length (tree_code t)) code) (tree_code t) && same_list (drop (length (tree_code t)) code) (tree_code u)) (counted code is) some in
-        let p = same_both (front_code (length (tree_code t)) code) (tree_code t) (drop (length (tree_code t)) code) (tree_code u) h in
-        let product : IsTreeProduct (tree_code t) (tree_code u) code = record { tree = is; front = p.0; back = p.1 } in
-        inl (product, once code product))
-    | inr none ↦ inr ((λ h. omega (arith, none, once code h)), omega (arith, none))
-  ]
-    where
-      both : (b : Bool) → times_in code codes ≡ one_if b → 0 < times_in code codes → b ≡ true
-      both true e some = refl
-      both false e some = absurd (omega (arith, e, some))
-
--- each tree of a product has the nodes of both
-pub sizes_of_products : (t u : Tree) → AllByRecursion (λ x. tree_size x ≡ tree_size t + tree_size u) (tree_products t u)
-sizes_of_products empty u = (omega arith, tt)
-sizes_of_products (node a b) empty = (omega arith, tt)
-sizes_of_products (node a b) (node c d) =
-    every-append (λ x. tree_size x ≡ tree_size (node a b) + tree_size (node c d)) (map (λ x. node a x) (tree_products b (node c d))) (map (λ y. node y d) (tree_products (node a b) c))
-    (every-map (λ x. tree_size x ≡ tree_size b + tree_size (node c d)) _ (λ x. node a x) (λ x h. omega (arith, h)) (tree_products b (node c d)) (sizes_of_products b (node c d)))
-    (every-map (λ y. tree_size y ≡ tree_size (node a b) + tree_size c) _ (λ y. node y d) (λ y h. omega (arith, h)) (tree_products (node a b) c) (sizes_of_products (node a b) c))
-
--- there are at most 2^n of them
-pub few_trees : (n : ℕ) (t u : Tree) → tree_size t + tree_size u ≤ n → length (tree_products t u) ≤ 2 ^ n
-few_trees n empty u le = omega (arith, pow_pos n)
-few_trees n (node a b) empty le = omega (arith, pow_pos n)
-few_trees zero (node a b) (node c d) le = absurd (omega (arith, le))
-few_trees (suc n) (node a b) (node c d) le =
-    omega (
+rooted-count : (t u v : Tree) → 1 ≤ tree_count v (tree_products t u) → IsInProduct t u v
+rooted-count empty u v some = is_listed v u (same_tree v u) refl some
+rooted-count (node a b) empty v some = is_listed v (node a b) (same_tree v (node a b)) refl some
+rooted-count (node a b) (node c d) empty some =
+    let none : tree_count empty (tree_products (node a b) (node c d)) ≡ 0 = count-tree_products (node a b) (node c d) empty in
+    absurd (omega (arith, some, none))
+rooted-count (node a b) (node c d) (node l r) some =
+    by_tests (same_tree l a) refl (same_tree r d) refl (λ k. rooted-count b (node c d) r k) (λ k. rooted-count (node a b) c l k)
+    (omega (
       arith,
-      length-append (map (λ x. node a x) (tree_products b (node c d))) (map (λ y. node y d) (tree_products (node a b) c)),
-      length-map (tree_products b (node c d)) (λ x. node a x),
-      length-map (tree_products (node a b) c) (λ y. node y d),
-      few_trees n b (node c d) (omega (arith, le)),
-      few_trees n (node a b) c (omega (arith, le)),
-    )
+      some,
+      sums-append (λ u. one_if (same_tree (node l r) u)) (map (λ x. node a x) (tree_products b (node c d))) (map (λ y. node y d) (tree_products (node a b) c)),
+      count-left l r a (tree_products b (node c d)),
+      count-right l r d (tree_products (node a b) c),
+    ))
+  where
+    by_tests : (p : Bool) → same_tree l a ≡ p → (q : Bool) → same_tree r d ≡ q
+        → (1 ≤ tree_count r (tree_products b (node c d)) → IsInProduct b (node c d) r) → (1 ≤ tree_count l (tree_products (node a b) c) → IsInProduct (node a b) c l)
+        → 1 ≤ one_if p * tree_count r (tree_products b (node c d)) + one_if q * tree_count l (tree_products (node a b) c)
+        → ((l ≡ a) × IsInProduct b (node c d) r) ⊎ ((r ≡ d) × IsInProduct (node a b) c l)
+    by_tests true e true f left right some = elim (cases_lt 0 (tree_count r (tree_products b (node c d)))) [
+      | inl more ↦ inl (same_tree-true l a e, left more)
+      | inr none ↦ inr (same_tree-true r d f, right (omega (arith, some, none)))
+    ]
+    by_tests true e false f left right some = inl (same_tree-true l a e, left (omega (arith, some)))
+    by_tests false e true f left right some = inr (same_tree-true r d f, right (omega (arith, some)))
+    by_tests false e false f left right some = absurd (omega (arith, some))
 
-pub tree_recursion : TreeRecursionLaw
-tree_recursion t u = record {
-  once = listed_once t u;
-  rule = record {
-    reads = λ p point. indices_read PbtP (λ p. tree_code (decreasing_tree p)) (λ n code. front_code n code) (λ n code. drop n code) by_trees
-        (tree_code t) (tree_code u) (map tree_code (tree_products t u)) (counted t u) p point;
-    indices = every-map (λ x. tree_size x ≡ tree_size t + tree_size u) _ tree_code
-        (λ x h. ((x, refl), omega (arith, length-tree_code x, h, length-tree_code t, length-tree_code u)))
-        (tree_products t u) (sizes_of_products t u);
-    few =
-        let n : ℕ = length (tree_code t) + length (tree_code u) in
-        let bound : 2 ^ n ≤ 2 ^ (5 * n) = pow-le-pow_right {n = 2} (omega arith) {i = n} {j = 5 * n} (omega arith) in
-        omega (arith, length-map (tree_products t u) tree_code, few_trees n t u (omega (arith, length-tree_code t, length-tree_code u)), bound);
-  };
+-- the tests of the trees are those of their codes
+cuts_of_codes : (t u v : Tree) → is_cut_into v t u ≡ splits_into (λ n code. front_code n code) (λ n code. drop n code) (length (tree_code t)) (tree_code t) (tree_code u) (tree_code v)
+cuts_of_codes t u v =
+    (λ i. sym (same_codes (front_tree (tree_size t) v) t) i && sym (same_codes (back_tree (tree_size t) v) u) i)
+    ∙ (λ i. same_list (front_tree-code (tree_size t) v i) (tree_code t) && same_list (back_tree-code (tree_size t) v i) (tree_code u))
+    ∙ (λ i. same_list (front_code (sym (length-tree_code t) i) (tree_code v)) (tree_code t) && same_list (drop (sym (length-tree_code t) i) (tree_code v)) (tree_code u))
+
+-- a tree of the product has the two as its front and back
+cut : (t u v : Tree) → IsInProduct t u v → IsTreeProduct (tree_code t) (tree_code u) (tree_code v)
+cut t u v h =
+    let some : 1 ≤ one_if (is_cut_into v t u) = subst (λ k. 1 ≤ k) (count-tree_products t u v) (count-rooted t u v h) in
+    let p = same_both (front_code (length (tree_code t)) (tree_code v)) (tree_code t) (drop (length (tree_code t)) (tree_code v)) (tree_code u)
+    (sym (cuts_of_codes t u v) ∙ holds (is_cut_into v t u) some) in
+    record { tree = (v, refl); front = p.0; back = p.1 }
+  where
+    holds : (b : Bool) → 1 ≤ one_if b → b ≡ true
+    holds true k = refl
+    holds false k = absurd (omega (arith, k))
+
+-- and a tree with this front and back is one of the product
+rooted : (t u v : Tree) → IsTreeProduct (tree_code t) (tree_code u) (tree_code v) → IsInProduct t u v
+rooted t u v h =
+    let test : is_cut_into v t u ≡ true = cuts_of_codes t u v ∙ both_same _ (tree_code t) _ (tree_code u) h.front h.back in
+    rooted-count t u v (omega (arith, count-tree_products t u v, ap one_if test))
+
+-- lists of codes that have the same property
+lists_same : (P Q : List ℕ → Type 0) → ((code : List ℕ) → P code → Q code) → ((code : List ℕ) → Q code → P code) → (codes : List (List ℕ)) → ListsEach P codes → ListsEach Q codes
+lists_same P Q to from codes h = record {
+  each = λ code listed. to code (h.each code listed);
+  whole = λ code q. h.whole code (from code q);
+  in_order = h.in_order;
 }
+
+rule_by_roots : (t u : Tree) (codes : List (List ℕ)) → tree_size t + tree_size u ≤ 32 → ListsEach (IsCodeInProduct t u) codes → IsProductRule PbtP (tree_code t) (tree_code u) codes
+rule_by_roots t u codes small lists =
+    tree_rule (tree_code t) (tree_code u) codes (omega (arith, small, length-tree_code t, length-tree_code u))
+    (lists_same (IsCodeInProduct t u) (IsTreeProduct (tree_code t) (tree_code u))
+    (λ code h. subst (IsTreeProduct (tree_code t) (tree_code u)) h.2 (cut t u h.0 h.1))
+    (λ code h. let v : Tree = h.tree.0 in (v, rooted t u v (subst (IsTreeProduct (tree_code t) (tree_code u)) (sym h.tree.1) h), h.tree.1))
+    codes lists)
+
+pub by_roots : TreeRootsLaw
+by_roots = record { cut = cut; rooted = rooted; rule = rule_by_roots }
