@@ -1,0 +1,10 @@
+pub mod BitMatrices
+pub mod BitTests
+pub mod ChangeAnswers
+pub mod Changes
+pub mod CompositionsByBits
+pub mod IntSums
+pub mod ListedSums
+pub mod PassingSums
+pub mod QsymChanges
+pub mod SignedEntries

@@ -1,0 +1,6 @@
+//! Changes of basis inside one algebra, and what rules on indices make of a component of a combination.
+#![tactic(auto)]
+
+mod laws;
+
+pub use laws::{few_law, qsym_changes_law, qsym_existence_law};
