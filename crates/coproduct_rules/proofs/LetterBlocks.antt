@@ -1,0 +1,20 @@
+-- Blocks of equal letters in front of a word.
+use Rattle.std.proofs.Common.{◌≡◌, ℕ, zero, suc, ◌+◌, ◌<◌, ◌≤◌, List, [], ◌∷◌, ◌++◌, refl, arith}
+use Rattle.std.specs.Prelude.{replicate}
+use Rattle.realisations.specs.Words.{greatest}
+use Rattle.coproduct_laws.proofs.LowAndHigh.{AreLow, AreHigh}
+
+-- all letters are at most the greatest
+pub low_from_greatest : (k : ℕ) (w : List ℕ) → greatest w ≤ k → AreLow k w
+low_from_greatest k [] h = tt
+low_from_greatest k (x ∷ w) h = (omega arith, low_from_greatest k w (omega arith))
+
+-- a block of equal low letters
+pub low_block : (g n i : ℕ) (w : List ℕ) → i ≤ g → AreLow g w → AreLow g (replicate n i ++ w)
+low_block g zero i w h hw = hw
+low_block g (suc n) i w h hw = (h, low_block g n i w h hw)
+
+-- a block of equal high letters
+pub high_block : (g n i : ℕ) (w : List ℕ) → g < i → AreHigh g w → AreHigh g (replicate n i ++ w)
+high_block g zero i w h hw = hw
+high_block g (suc n) i w h hw = (h, high_block g n i w h hw)

@@ -1,0 +1,3 @@
+pub mod DegreeCuts
+pub mod KnownPairs
+pub mod Laws
