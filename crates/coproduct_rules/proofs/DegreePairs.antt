@@ -1,6 +1,6 @@
 -- The cuts of a composition by degree are pairs of compositions, one for each degree.
-use Rattle.std.proofs.Common.{◌≡◌, ℕ, zero, suc, ◌+◌, ◌*◌, ◌^◌, ◌<◌, ◌≤◌, List, map, length, arith}
-use Rattle.std.specs.List.{AllByRecursion, range_with_len, sum}
+use Rattle.std.proofs.Common.{suc, ◌*◌, ◌^◌, ◌≤◌, length, arith}
+use Rattle.std.specs.List.{range_with_len, sum}
 use Rattle.std.proofs.Math.Pow.{pow_mono}
 use Rattle.std.proofs.lemmas.List.FromFn.{length-map-range_with_len}
 use Rattle.basis_names.specs.declared.bases.BasisId.TheVariants.{QsymF}

@@ -1,5 +1,5 @@
 -- Blocks of equal letters in front of a word.
-use Rattle.std.proofs.Common.{◌≡◌, ℕ, zero, suc, ◌+◌, ◌<◌, ◌≤◌, List, [], ◌∷◌, ◌++◌, refl, arith}
+use Rattle.std.proofs.Common.{ℕ, zero, suc, ◌<◌, ◌≤◌, List, [], ◌∷◌, ◌++◌, arith}
 use Rattle.std.specs.Prelude.{replicate}
 use Rattle.realisations.specs.Words.{greatest}
 use Rattle.coproduct_laws.proofs.LowAndHigh.{AreLow, AreHigh}

@@ -1,6 +1,13 @@
+pub mod Compatibility
+pub mod Components
+pub mod Counits
 pub mod DegreeCuts
 pub mod DegreePairs
+pub mod DoubleSums
 pub mod FundamentalRule
+pub mod KeyReadings
 pub mod LetterBlocks
+pub mod RaisedShuffles
 pub mod Raising
 pub mod Rises
+pub mod ShuffleCuts

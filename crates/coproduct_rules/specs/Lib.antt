@@ -1,3 +1,5 @@
+pub mod Components
+pub mod Counits
 pub mod DegreeCuts
 pub mod KnownPairs
 pub mod Laws

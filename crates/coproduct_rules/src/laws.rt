@@ -1,5 +1,6 @@
 //! Laws of coproducts and counits. A function here computes nothing: callers cite its clause.
-ghost use Rattle.coproduct_rules.specs.Laws.{FundamentalCoproductLaw};
+ghost use Rattle.coproduct_rules.specs.Components.{ComponentLaw, ComponentCounitLaw, ComponentMultLaw, LaterComponentLaw};
+ghost use Rattle.coproduct_rules.specs.Laws.{FundamentalCoproductLaw, CounitLaw, MultLaw, CompatibilityLaw};
 
 /// The coproduct of an element of `QSym.F` (Gessel 1984): for each k from 0 to its degree, the one pair
 /// of a composition J of k and one K of the rest such that its composition is J followed by K, or these
@@ -8,4 +9,58 @@ ghost use Rattle.coproduct_rules.specs.Laws.{FundamentalCoproductLaw};
 /// Nothing is computed: callers cite the clause.
 pub fn fundamental_coproduct_law()
     ensures { FundamentalCoproductLaw }
+{}
+
+/// The counit of a basis element is 1 at the empty index and 0 at every other, in every basis.
+///
+/// Nothing is computed: callers cite the clause.
+pub fn counit_law()
+    ensures { CounitLaw }
+{}
+
+/// The product of both components of a tensor is the product of what it is a tensor of.
+///
+/// Nothing is computed: callers cite the clause.
+pub fn mult_law()
+    ensures { MultLaw }
+{}
+
+/// The coproduct of a product is the product of the coproducts: for two elements of a basis, at all
+/// pairs of points, in every basis (Gessel 1984; Malvenuto, Reutenauer 1995; Hivert 1999).
+///
+/// Nothing is computed: callers cite the clause.
+pub fn compatibility_law()
+    ensures { CompatibilityLaw }
+{}
+
+/// A coproduct rule holds on each component: the key with each of its pairs in place of the component
+/// reads as the coproduct of the component, while the other components stand still.
+///
+/// Nothing is computed: callers cite the clause.
+pub fn component_law()
+    ensures { ComponentLaw }
+{}
+
+/// The counit rule holds on each component: the key without the component reads as its counit where the
+/// component is the empty index, and nothing does else.
+///
+/// Nothing is computed: callers cite the clause.
+pub fn component_counit_law()
+    ensures { ComponentCounitLaw }
+{}
+
+/// The product of the first two components of a key reads as the product of their elements, times what
+/// the other components read as.
+///
+/// Nothing is computed: callers cite the clause.
+pub fn component_mult_law()
+    ensures { ComponentMultLaw }
+{}
+
+/// An operation on a later component of a key reads as on the key without the first component, times the
+/// occurrence of the first.
+///
+/// Nothing is computed: callers cite the clause.
+pub fn later_component_law()
+    ensures { LaterComponentLaw }
 {}

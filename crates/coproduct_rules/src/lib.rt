@@ -3,4 +3,7 @@
 
 mod laws;
 
-pub use laws::fundamental_coproduct_law;
+pub use laws::{
+    compatibility_law, component_counit_law, component_law, component_mult_law, counit_law,
+    fundamental_coproduct_law, later_component_law, mult_law,
+};
