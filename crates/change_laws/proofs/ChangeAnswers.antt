@@ -115,16 +115,16 @@ ranks-all : (coefficient : Code → ℤ) (codes : List Code) (i : ℕ) → i < l
 ranks-all coefficient codes i lt = All-map (λ (t : ℤ × Key). length t.1 ≡ 1) (λ code. (coefficient code, code ∷ [])) codes (λ k d le. refl) i (pos 0, []) lt
 
 module _ (from to : BasisId) (by : IsByCompositions to) (test : Code → Code → Bool) (signs : Code → Code → ℕ)
-    (size : (parts code : Code) → IsTrue (test parts code) → sum code ≡ sum parts)
+    (size : (parts code : Code) → IsComposition parts → IsTrue (test parts code) → sum code ≡ sum parts)
     (reads : ReadsAsSum from to (λ parts code. sign_if (test parts code) (signs parts code))) where
   -- what gathers the compositions that pass, each with its sign, is the element over the other basis
   pub change_answer : (parts : Code) → IsComposition parts → (codes : List Code) → ListsEach (λ code. IsComposition code × IsTrue (test parts code)) codes → (c : Combination)
       → IsSumOfTerms 1 (signed_terms (signs parts) codes) c → IsChanged from to parts c
   change_answer parts h codes lists c is =
       let n = sum parts in
-      let size_here = λ (code : Code) (hc : IsComposition code) (passes : IsTrue (test parts code)). size parts code passes in
+      let size_here = λ (code : Code) (hc : IsComposition code) (passes : IsTrue (test parts code)). size parts code h passes in
       let each : All (IsCompositionOf n) codes =
-      All-weaker (λ code. IsComposition code × IsTrue (test parts code)) (IsCompositionOf n) (λ code p. record { positive = p.0; size = size parts code p.1 }) codes
+      All-weaker (λ code. IsComposition code × IsTrue (test parts code)) (IsCompositionOf n) (λ code p. record { positive = p.0; size = size parts code h p.1 }) codes
       (each_listed (λ code. IsComposition code × IsTrue (test parts code)) codes lists) in
       changed from to by (λ parts code. sign_if (test parts code) (signs parts code)) reads parts h c
       (record {

@@ -5,6 +5,7 @@ pub mod Changes
 pub mod CompositionsByBits
 pub mod IntSums
 pub mod ListedSums
+pub mod NcsfChanges
 pub mod PassingSums
 pub mod QsymChanges
 pub mod SignedEntries

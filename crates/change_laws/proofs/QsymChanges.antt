@@ -7,6 +7,7 @@ use Rattle.basis_names.specs.declared.bases.BasisId.TheVariants.{QsymM, QsymF}
 use Rattle.realisations.specs.Codes.{Code}
 use Rattle.realisations.specs.Descents.{is_finer}
 use Rattle.realisations.specs.Exponents.{without_zeros}
+use Rattle.realisations.specs.IndexKinds.{IsComposition}
 use Rattle.realisations.specs.Lists.{one_if}
 use Rattle.basis_representatives.proofs.Bits.{composition_of}
 use Rattle.basis_representatives.proofs.DescentBits.{is_finer-composition_of}
@@ -28,8 +29,8 @@ fundamentals : IsByCompositions QsymF
 fundamentals = record { index = λ parts h. h; degree = λ parts. refl }
 
 -- a finer composition has the same size
-finer_size : (parts code : Code) → IsTrue (is_finer code parts) → sum code ≡ sum parts
-finer_size parts code finer = sum-finer code parts finer
+finer_size : (parts code : Code) → IsComposition parts → IsTrue (is_finer code parts) → sum code ≡ sum parts
+finer_size parts code h finer = sum-finer code parts finer
 
 fundamental-entries : HasEntries (λ parts code. sign_if (is_finer code parts) 0) (matrix_of within)
 fundamental-entries = record {

@@ -3,4 +3,6 @@
 
 mod laws;
 
-pub use laws::{few_law, qsym_changes_law, qsym_existence_law};
+pub use laws::{
+    few_law, ncsf_changes_law, ncsf_existence_law, qsym_changes_law, qsym_existence_law,
+};
