@@ -4,8 +4,11 @@ pub mod ChangeAnswers
 pub mod Changes
 pub mod CompositionsByBits
 pub mod IntSums
+pub mod LiftedKeys
+pub mod Lifts
 pub mod ListedSums
 pub mod NcsfChanges
+pub mod OperationsAt
 pub mod PassingSums
 pub mod QsymChanges
 pub mod SignedEntries

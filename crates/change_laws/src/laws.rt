@@ -1,5 +1,6 @@
-//! Laws of changes of basis. A function here computes nothing: callers cite its clause.
+//! Laws of changes of basis, and of rules put into one component. A function here computes nothing: callers cite its clause.
 ghost use Rattle.change_laws.specs.Laws.{FewLaw, QsymChangesLaw, QsymExistenceLaw, NcsfChangesLaw, NcsfExistenceLaw};
+ghost use Rattle.change_laws.specs.Lifts.{ComponentReadingsLaw, ReplacedLaw, ChangeLiftLaw, OperationLiftLaw};
 
 /// A composition of n has at most 2^n finer ones, and at most 2^n coarser ones.
 ///
@@ -38,4 +39,36 @@ pub fn ncsf_changes_law()
 /// Nothing is computed: callers cite the clause.
 pub fn ncsf_existence_law()
     ensures { NcsfExistenceLaw }
+{}
+
+/// A combination reads as the sum over its keys of the other components times the element at a component,
+/// and coproduct, antipode, counit and commuting image of that component as the sum of these times the
+/// operation on the element.
+///
+/// Nothing is computed: callers cite the clause.
+pub fn component_readings_law()
+    ensures { ComponentReadingsLaw }
+{}
+
+/// Indices in the place of a component make indices, of the same degree where theirs is that of the code
+/// there, and terms in its place read as the other components times what they read as.
+///
+/// Nothing is computed: callers cite the clause.
+pub fn replaced_law()
+    ensures { ReplacedLaw }
+{}
+
+/// A change of basis put into one component of the keys of a combination, of any rank, keeps its reading.
+///
+/// Nothing is computed: callers cite the clause.
+pub fn change_lift_law()
+    ensures { ChangeLiftLaw }
+{}
+
+/// What a rule answers for the elements of a basis, put into one component of the keys of a combination of
+/// any rank, reads as the operation on that component, for coproduct, antipode, counit and commuting image.
+///
+/// Nothing is computed: callers cite the clause.
+pub fn operation_lift_law()
+    ensures { OperationLiftLaw }
 {}
