@@ -6,12 +6,12 @@ use Rattle.realisations.proofs.Sums.{sums, sums-add, sums-map, sums_same}
 use Rattle.coproduct_laws.proofs.Shuffling.{over_shuffles, over_shuffles-step}
 
 -- no second word
-over_shuffles-nil_right : (f : List ℕ → ℕ) (u : List ℕ) → over_shuffles f u [] ≡ f u
+pub over_shuffles-nil_right : (f : List ℕ → ℕ) (u : List ℕ) → over_shuffles f u [] ≡ f u
 over_shuffles-nil_right f [] = omega arith
 over_shuffles-nil_right f (x ∷ u) = omega arith
 
 -- no first word
-over_shuffles-nil_left : (f : List ℕ → ℕ) (v : List ℕ) → over_shuffles f [] v ≡ f v
+pub over_shuffles-nil_left : (f : List ℕ → ℕ) (v : List ℕ) → over_shuffles f [] v ≡ f v
 over_shuffles-nil_left f v = omega arith
 
 -- the sum of a function over the cuts of a word

@@ -1,7 +1,7 @@
 -- Laws of coproducts and counits. Public functions with empty bodies ensure them (`src/laws.rt`).
 use Rattle.std.specs.Prelude.{◌≡◌, [], ◌∷◌}
 use Rattle.basis_names.specs.declared.bases.BasisId.{BasisId}
-use Rattle.basis_names.specs.declared.bases.BasisId.TheVariants.{QsymF}
+use Rattle.basis_names.specs.declared.bases.BasisId.TheVariants.{QsymF, NcsfS, NcsfL, NcsfR}
 use Rattle.realisations.specs.Bases.{kind_of}
 use Rattle.realisations.specs.Codes.{Code}
 use Rattle.realisations.specs.Indices.{IsIndex}
@@ -10,10 +10,24 @@ use Rattle.realisations.specs.Readings.{Reading, applied, coproduct, mult, produ
 use Rattle.coproduct_laws.specs.Coproducts.{IsCoproductRule}
 use Rattle.coproduct_rules.specs.Counits.{counit_terms, IsCounit}
 use Rattle.coproduct_rules.specs.DegreeCuts.{degree_cuts}
+use Rattle.coproduct_rules.specs.PartCuts.{part_cuts}
+use Rattle.coproduct_rules.specs.RibbonCuts.{ribbon_cuts}
 
 -- QSym.F of a composition: for each degree the one cut of the composition there, of a part in two or between parts (Gessel 1984)
 abbrev pub FundamentalCoproductLaw : Type 0
 FundamentalCoproductLaw = (parts : Code) → IsIndex QsymF parts → IsCoproductRule QsymF parts (degree_cuts parts)
+
+-- NCSF.S of a composition: each part is cut into two numbers in all ways (Gelfand, Krob, Lascoux, Leclerc, Retakh, Thibon 1995)
+abbrev pub CompleteCoproductLaw : Type 0
+CompleteCoproductLaw = (parts : Code) → IsIndex NcsfS parts → IsCoproductRule NcsfS parts (part_cuts parts)
+
+-- NCSF.L of a composition: the same
+abbrev pub ElementaryCoproductLaw : Type 0
+ElementaryCoproductLaw = (parts : Code) → IsIndex NcsfL parts → IsCoproductRule NcsfL parts (part_cuts parts)
+
+-- NCSF.R of a composition: all pairs of compositions, each as often as a shuffle of words with these descent compositions has the composition (Malvenuto, Reutenauer 1995)
+abbrev pub RibbonCoproductLaw : Type 0
+RibbonCoproductLaw = (parts : Code) → IsIndex NcsfR parts → IsCoproductRule NcsfR parts (ribbon_cuts parts)
 
 -- the counit of each basis is 1 at the empty index, and 0 at every other
 abbrev pub CounitLaw : Type 0

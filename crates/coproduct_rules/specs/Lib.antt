@@ -3,3 +3,5 @@ pub mod Counits
 pub mod DegreeCuts
 pub mod KnownPairs
 pub mod Laws
+pub mod PartCuts
+pub mod RibbonCuts

@@ -1,6 +1,6 @@
 //! Laws of coproducts and counits. A function here computes nothing: callers cite its clause.
 ghost use Rattle.coproduct_rules.specs.Components.{ComponentLaw, ComponentCounitLaw, ComponentMultLaw, LaterComponentLaw};
-ghost use Rattle.coproduct_rules.specs.Laws.{FundamentalCoproductLaw, CounitLaw, MultLaw, CompatibilityLaw};
+ghost use Rattle.coproduct_rules.specs.Laws.{FundamentalCoproductLaw, CompleteCoproductLaw, ElementaryCoproductLaw, RibbonCoproductLaw, CounitLaw, MultLaw, CompatibilityLaw};
 
 /// The coproduct of an element of `QSym.F` (Gessel 1984): for each k from 0 to its degree, the one pair
 /// of a composition J of k and one K of the rest such that its composition is J followed by K, or these
@@ -9,6 +9,32 @@ ghost use Rattle.coproduct_rules.specs.Laws.{FundamentalCoproductLaw, CounitLaw,
 /// Nothing is computed: callers cite the clause.
 pub fn fundamental_coproduct_law()
     ensures { FundamentalCoproductLaw }
+{}
+
+/// The coproduct of an element of `NCSF.S` (Gelfand, Krob, Lascoux, Leclerc, Retakh, Thibon 1995): for
+/// each way to write every part as a sum of two numbers, the first ones tensor the second ones, without
+/// the zeros.
+///
+/// Nothing is computed: callers cite the clause.
+pub fn complete_coproduct_law()
+    ensures { CompleteCoproductLaw }
+{}
+
+/// The coproduct of an element of `NCSF.L` (Gelfand, Krob, Lascoux, Leclerc, Retakh, Thibon 1995): as
+/// that of `NCSF.S`.
+///
+/// Nothing is computed: callers cite the clause.
+pub fn elementary_coproduct_law()
+    ensures { ElementaryCoproductLaw }
+{}
+
+/// The coproduct of a ribbon, an element of `NCSF.R` (Malvenuto, Reutenauer 1995): the tensor of the
+/// ribbons of J and K as often as a shuffle of a word with descent composition J and one with descent
+/// composition K, raised above it, has the composition of the ribbon.
+///
+/// Nothing is computed: callers cite the clause.
+pub fn ribbon_coproduct_law()
+    ensures { RibbonCoproductLaw }
 {}
 
 /// The counit of a basis element is 1 at the empty index and 0 at every other, in every basis.

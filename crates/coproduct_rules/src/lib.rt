@@ -4,6 +4,7 @@
 mod laws;
 
 pub use laws::{
-    compatibility_law, component_counit_law, component_law, component_mult_law, counit_law,
-    fundamental_coproduct_law, later_component_law, mult_law,
+    compatibility_law, complete_coproduct_law, component_counit_law, component_law,
+    component_mult_law, counit_law, elementary_coproduct_law, fundamental_coproduct_law,
+    later_component_law, mult_law, ribbon_coproduct_law,
 };

@@ -1,0 +1,130 @@
+-- The pairs of ribbons that shuffles give are pairs of compositions, at most 2^(3n) of them.
+use Rattle.std.proofs.Common.{◌≡◌, ℕ, zero, suc, ◌+◌, ◌-◌, ◌*◌, ◌^◌, ◌≤◌, if◌then◌else◌, Bool, true, false, List, [], ◌∷◌, map, length, refl, sym, ◌∙◌, ap, subst, arith}
+use Rattle.std.specs.List.{AllByRecursion, flat_map, range_with_len, sum}
+use Rattle.std.proofs.Math.Nat.{mul-le-mul}
+use Rattle.std.proofs.Math.Pow.{pow_mono}
+use Rattle.std.proofs.lemmas.Nat.{pow-add, pow_pos}
+use Rattle.std.proofs.lemmas.List.{length-append, length-map}
+use Rattle.std.proofs.lemmas.List.FromFn.{length-range_with_len}
+use Rattle.basis_names.specs.declared.bases.BasisId.TheVariants.{NcsfR}
+use Rattle.realisations.specs.Descents.{descent_composition, word_of_composition}
+use Rattle.realisations.specs.IndexKinds.{IsComposition}
+use Rattle.realisations.specs.Lists.{same_list}
+use Rattle.realisations.specs.Pairings.{longer_compositions, compositions}
+use Rattle.realisations.specs.Words.{greatest, raise, shuffles, shifted_shuffles}
+use Rattle.realisations.proofs.DescentCompositions.{descends}
+use Rattle.basis_representatives.proofs.Letters.{Letters-range}
+use Rattle.coproduct_laws.specs.Coproducts.{ArePairs}
+use Rattle.coproduct_laws.proofs.ValuePairs.{suc-le-pow_two}
+use Rattle.coproduct_rules.specs.Laws.{RibbonCoproductLaw}
+use Rattle.coproduct_rules.specs.RibbonCuts.{ribbon_pair, ribbon_cuts}
+use Rattle.coproduct_rules.proofs.DegreeCuts.{sum-first}
+use Rattle.coproduct_rules.proofs.DescentShuffles.{descent_composition-word}
+use Rattle.coproduct_rules.proofs.PartPairs.{pow_two-suc, each_flat_map, any, length-flat_map-le}
+use Rattle.coproduct_rules.proofs.RibbonRule.{ribbon_coproduct}
+
+-- the compositions of n are compositions with the sum n
+all_sums : (n : ℕ) → AllByRecursion (λ parts. IsComposition parts × (sum parts ≡ n)) (compositions n)
+all_sums zero = ((tt, refl), tt)
+all_sums (suc n) = each_flat_map (λ parts. IsComposition parts × (sum parts ≡ n)) (λ parts. IsComposition parts × (sum parts ≡ suc n)) (λ parts. longer_compositions parts) longer (compositions n) (all_sums n)
+  where
+    longer : (parts : List ℕ) → IsComposition parts × (sum parts ≡ n) → AllByRecursion (λ parts. IsComposition parts × (sum parts ≡ suc n)) (longer_compositions parts)
+    longer [] h = (((omega arith, tt), omega (arith, h.1, sum-first 1 [])), tt)
+    longer (i ∷ parts) h =
+        (((omega arith, h.0), omega (arith, h.1, sum-first 1 (i ∷ parts))), (((omega arith, h.0.1), omega (arith, h.1, sum-first (suc i) parts, sum-first i parts)), tt))
+
+ribbon_pairs : (parts : List ℕ) → ArePairs NcsfR parts (ribbon_cuts parts)
+ribbon_pairs parts =
+    each_flat_map (λ d. d ≤ sum parts) _ (λ d. flat_map (λ j. flat_map (λ k. ribbon_pair parts j k) (compositions (sum parts - d))) (compositions d))
+    (λ d le. each_flat_map (λ j. IsComposition j × (sum j ≡ d)) _ (λ j. flat_map (λ k. ribbon_pair parts j k) (compositions (sum parts - d)))
+    (λ j hj. each_flat_map (λ k. IsComposition k × (sum k ≡ sum parts - d)) _ (λ k. ribbon_pair parts j k)
+    (λ k hk. each_flat_map (λ x. Unit {0}) _ (λ x. if same_list (descent_composition x) parts then (j, k) ∷ [] else [])
+    (λ x hx. by_test (same_list (descent_composition x) parts) j k hj.0 hk.0 (omega (arith, hj.1, hk.1)))
+    (shifted_shuffles (word_of_composition j) (word_of_composition k)) (any (shifted_shuffles (word_of_composition j) (word_of_composition k))))
+    (compositions (sum parts - d)) (all_sums (sum parts - d))) (compositions d) (all_sums d))
+    (range_with_len 0 (suc (sum parts)))
+    (Letters-range (λ d. d ≤ sum parts) 0 (suc (sum parts)) (λ k a b. omega arith))
+  where
+    by_test : (b : Bool) (j k : List ℕ) → IsComposition j → IsComposition k → sum j + sum k ≡ sum parts
+        → AllByRecursion (λ (e : List ℕ × List ℕ). IsComposition e.0 × IsComposition e.1 × (sum e.0 + sum e.1 ≡ sum parts)) (if b then (j, k) ∷ [] else [])
+    by_test true j k hj hk h = ((hj, hk, h), tt)
+    by_test false j k hj hk h = tt
+
+-- at most 2^n shuffles of n letters
+length-shuffles : (u v : List ℕ) → length (shuffles u v) ≤ 2 ^ (length u + length v)
+length-shuffles [] v = omega (arith, pow_pos (0 + length v))
+length-shuffles (x ∷ u) [] = omega (arith, pow_pos (suc (length u) + 0))
+length-shuffles (x ∷ u) (y ∷ v) =
+    let first : 2 ^ (length u + length (y ∷ v)) ≡ 2 ^ (suc (length u) + length v) = ap (λ n. 2 ^ n) (omega arith) in
+    let whole : 2 ^ (length (x ∷ u) + length (y ∷ v)) ≡ 2 ^ suc (suc (length u) + length v) = ap (λ n. 2 ^ n) (omega arith) in
+    omega (
+      arith,
+      first,
+      whole,
+      pow_two-suc (suc (length u) + length v),
+      length-append (map (λ w. x ∷ w) (shuffles u (y ∷ v))) (map (λ w. y ∷ w) (shuffles (x ∷ u) v)),
+      length-map (shuffles u (y ∷ v)) (λ w. x ∷ w),
+      length-map (shuffles (x ∷ u) v) (λ w. y ∷ w),
+      length-shuffles u (y ∷ v),
+      length-shuffles (x ∷ u) v,
+    )
+
+-- at most 2^n compositions of n
+length-compositions : (n : ℕ) → length (compositions n) ≤ 2 ^ n
+length-compositions zero = omega arith
+length-compositions (suc n) =
+    omega (arith, pow_two-suc n, length-compositions n, length-flat_map-le (λ (parts : List ℕ). Unit {0}) (λ parts. longer_compositions parts) 2 (λ parts h. two parts) (compositions n) (any (compositions n)))
+  where
+    two : (parts : List ℕ) → length (longer_compositions parts) ≤ 2
+    two [] = omega arith
+    two (i ∷ parts) = omega arith
+
+-- the word of a composition has the length of its sum
+length-word : (parts : List ℕ) → IsComposition parts → length (word_of_composition parts) ≡ sum parts
+length-word parts h = sym ((descends (word_of_composition parts)).0) ∙ ap sum (descent_composition-word parts h)
+
+-- the pairs listed for two compositions
+few_of_pair : (parts j k : List ℕ) → IsComposition j → IsComposition k → length (ribbon_pair parts j k) ≤ 2 ^ (sum j + sum k)
+few_of_pair parts j k hj hk =
+    let all : length (ribbon_pair parts j k) ≤ length (shifted_shuffles (word_of_composition j) (word_of_composition k)) * 1 =
+    length-flat_map-le (λ (x : List ℕ). Unit {0}) (λ x. if same_list (descent_composition x) parts then (j, k) ∷ [] else []) 1 (λ x h. one (same_list (descent_composition x) parts))
+    (shifted_shuffles (word_of_composition j) (word_of_composition k)) (any (shifted_shuffles (word_of_composition j) (word_of_composition k))) in
+    let size : length (word_of_composition j) + length (raise (greatest (word_of_composition j)) (word_of_composition k)) ≡ sum j + sum k =
+    omega (arith, length-word j hj, length-word k hk, length-map (word_of_composition k) (λ x. greatest (word_of_composition j) + x)) in
+    omega (arith, all, length-shuffles (word_of_composition j) (raise (greatest (word_of_composition j)) (word_of_composition k)), ap (λ n. 2 ^ n) size)
+  where
+    one : (b : Bool) → length {A = List ℕ × List ℕ} (if b then (j, k) ∷ [] else []) ≤ 1
+    one true = omega arith
+    one false = omega arith
+
+few_ribbons : (parts : List ℕ) → length (ribbon_cuts parts) ≤ 2 ^ (5 * sum parts)
+few_ribbons parts =
+    let n : ℕ = sum parts in
+    let all : length (ribbon_cuts parts) ≤ length (range_with_len 0 (suc (sum parts))) * 2 ^ (sum parts + sum parts) =
+    length-flat_map-le (λ d. d ≤ sum parts) (λ d. flat_map (λ j. flat_map (λ k. ribbon_pair parts j k) (compositions (sum parts - d))) (compositions d)) (2 ^ (sum parts + sum parts)) (λ d le. of_degree d le)
+    (range_with_len 0 (suc (sum parts))) (Letters-range (λ d. d ≤ sum parts) 0 (suc (sum parts)) (λ k a b. omega arith)) in
+    let count : length (range_with_len 0 (suc (sum parts))) ≤ 2 ^ sum parts = omega (arith, length-range_with_len 0 (suc (sum parts)), suc-le-pow_two (sum parts)) in
+    let both : length (range_with_len 0 (suc (sum parts))) * 2 ^ (sum parts + sum parts) ≤ 2 ^ sum parts * 2 ^ (sum parts + sum parts) = mul-le-mul count (omega arith) in
+    let whole : 2 ^ (sum parts + (sum parts + sum parts)) ≡ 2 ^ sum parts * 2 ^ (sum parts + sum parts) = pow-add 2 (sum parts) (sum parts + sum parts) in
+    let more : 2 ^ (sum parts + (sum parts + sum parts)) ≤ 2 ^ (5 * sum parts) = pow_mono (omega arith) in
+    omega (arith, all, both, whole, more)
+  where
+    of_degree : (d : ℕ) → d ≤ sum parts → length (flat_map (λ j. flat_map (λ k. ribbon_pair parts j k) (compositions (sum parts - d))) (compositions d)) ≤ 2 ^ (sum parts + sum parts)
+    of_degree d le =
+        let inner : (j : List ℕ) → IsComposition j × (sum j ≡ d) → length (flat_map (λ k. ribbon_pair parts j k) (compositions (sum parts - d))) ≤ 2 ^ (sum parts - d) * 2 ^ sum parts =
+        λ j hj.
+        (let each : length (flat_map (λ k. ribbon_pair parts j k) (compositions (sum parts - d))) ≤ length (compositions (sum parts - d)) * 2 ^ sum parts =
+        length-flat_map-le (λ k. IsComposition k × (sum k ≡ sum parts - d)) (λ k. ribbon_pair parts j k) (2 ^ sum parts)
+        (λ k hk. subst (λ m. length (ribbon_pair parts j k) ≤ 2 ^ m) (omega (arith, hj.1, hk.1)) (few_of_pair parts j k hj.0 hk.0)) (compositions (sum parts - d)) (all_sums (sum parts - d)) in
+        let most : length (compositions (sum parts - d)) * 2 ^ sum parts ≤ 2 ^ (sum parts - d) * 2 ^ sum parts = mul-le-mul (length-compositions (sum parts - d)) (omega arith) in
+        omega (arith, each, most)) in
+        let outer : length (flat_map (λ j. flat_map (λ k. ribbon_pair parts j k) (compositions (sum parts - d))) (compositions d)) ≤ length (compositions d) * (2 ^ (sum parts - d) * 2 ^ sum parts) =
+        length-flat_map-le (λ j. IsComposition j × (sum j ≡ d)) (λ j. flat_map (λ k. ribbon_pair parts j k) (compositions (sum parts - d))) (2 ^ (sum parts - d) * 2 ^ sum parts) inner (compositions d) (all_sums d) in
+        let most : length (compositions d) * (2 ^ (sum parts - d) * 2 ^ sum parts) ≤ 2 ^ d * (2 ^ (sum parts - d) * 2 ^ sum parts) = mul-le-mul (length-compositions d) (omega arith) in
+        let joined : 2 ^ (sum parts + sum parts) ≡ 2 ^ d * (2 ^ (sum parts - d) * 2 ^ sum parts) =
+        ap (λ m. 2 ^ m) (omega arith) ∙ pow-add 2 d (sum parts - d + sum parts) ∙ ap (λ m. 2 ^ d * m) (pow-add 2 (sum parts - d) (sum parts)) in
+        omega (arith, outer, most, joined)
+
+-- the rule of NCSF.R
+pub ribbon_rule : RibbonCoproductLaw
+ribbon_rule parts h = record { reads = ribbon_coproduct parts; indices = ribbon_pairs parts; few = few_ribbons parts }
