@@ -4,6 +4,7 @@ pub mod Compatibility
 pub mod Components
 pub mod CompositionSums
 pub mod Counits
+pub mod DecreasingTrees
 pub mod DegreeCuts
 pub mod DegreePairs
 pub mod DescentShuffles
@@ -21,5 +22,9 @@ pub mod RibbonPairs
 pub mod RibbonRule
 pub mod Rises
 pub mod ShuffleCuts
+pub mod ShufflesAtLetter
 pub mod Splits
 pub mod Tests
+pub mod UpperPairs
+pub mod UpperParts
+pub mod UpperRule

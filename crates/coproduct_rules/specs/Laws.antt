@@ -1,17 +1,20 @@
 -- Laws of coproducts and counits. Public functions with empty bodies ensure them (`src/laws.rt`).
-use Rattle.std.specs.Prelude.{◌≡◌, [], ◌∷◌}
+use Rattle.std.specs.Prelude.{◌≡◌, List, [], ◌∷◌, map}
 use Rattle.basis_names.specs.declared.bases.BasisId.{BasisId}
-use Rattle.basis_names.specs.declared.bases.BasisId.TheVariants.{QsymF, NcsfS, NcsfL, NcsfR}
+use Rattle.basis_names.specs.declared.bases.BasisId.TheVariants.{QsymF, NcsfS, NcsfL, NcsfR, PbtP}
 use Rattle.realisations.specs.Bases.{kind_of}
 use Rattle.realisations.specs.Codes.{Code}
 use Rattle.realisations.specs.Indices.{IsIndex}
-use Rattle.realisations.specs.Points.{Kind, Point, IsPoint}
-use Rattle.realisations.specs.Readings.{Reading, applied, coproduct, mult, product, tensor, element, of_key, kinds_of, AgreeAt}
+use Rattle.realisations.specs.Lists.{int_sum}
+use Rattle.realisations.specs.Points.{Kind, word, Point, IsPoint}
+use Rattle.realisations.specs.Readings.{Reading, applied, coproduct, mult, product, tensor, element, of_key, kinds_of, numerator, AgreeAt}
+use Rattle.realisations.specs.Trees.{Tree, tree_code}
 use Rattle.coproduct_laws.specs.Coproducts.{IsCoproductRule}
 use Rattle.coproduct_rules.specs.Counits.{counit_terms, IsCounit}
 use Rattle.coproduct_rules.specs.DegreeCuts.{degree_cuts}
 use Rattle.coproduct_rules.specs.PartCuts.{part_cuts}
 use Rattle.coproduct_rules.specs.RibbonCuts.{ribbon_cuts}
+use Rattle.coproduct_rules.specs.UpperParts.{upper_parts, product_of_trees, AreProducts, upper_cuts}
 
 -- QSym.F of a composition: for each degree the one cut of the composition there, of a part in two or between parts (Gessel 1984)
 abbrev pub FundamentalCoproductLaw : Type 0
@@ -28,6 +31,16 @@ ElementaryCoproductLaw = (parts : Code) → IsIndex NcsfL parts → IsCoproductR
 -- NCSF.R of a composition: all pairs of compositions, each as often as a shuffle of words with these descent compositions has the composition (Malvenuto, Reutenauer 1995)
 abbrev pub RibbonCoproductLaw : Type 0
 RibbonCoproductLaw = (parts : Code) → IsIndex NcsfR parts → IsCoproductRule NcsfR parts (ribbon_cuts parts)
+
+-- PBT.P of a tree, as readings: over the upper parts of the tree, the product of the elements of the subtrees that hang below, tensor the element of the part (Loday, Ronco 1998; Hivert, Novelli, Thibon 2005)
+abbrev pub UpperPartsLaw : Type 0
+UpperPartsLaw = (tree : Tree) (u v : Point) → IsPoint word v →
+    numerator (applied coproduct 0 (element PbtP (tree_code tree))) (u ∷ v ∷ [])
+    ≡ int_sum (map (λ e. numerator (tensor (product_of_trees e.0) (element PbtP (tree_code e.1))) (u ∷ v ∷ [])) (upper_parts tree))
+
+-- and by indices: the same, with any codes that read as the products
+abbrev pub TreeCoproductLaw : Type 0
+TreeCoproductLaw = (products : List Tree → List Code) → AreProducts products → (tree : Tree) → IsCoproductRule PbtP (tree_code tree) (upper_cuts products tree)
 
 -- the counit of each basis is 1 at the empty index, and 0 at every other
 abbrev pub CounitLaw : Type 0

@@ -5,3 +5,4 @@ pub mod KnownPairs
 pub mod Laws
 pub mod PartCuts
 pub mod RibbonCuts
+pub mod UpperParts

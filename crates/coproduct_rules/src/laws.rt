@@ -1,6 +1,6 @@
 //! Laws of coproducts and counits. A function here computes nothing: callers cite its clause.
 ghost use Rattle.coproduct_rules.specs.Components.{ComponentLaw, ComponentCounitLaw, ComponentMultLaw, LaterComponentLaw};
-ghost use Rattle.coproduct_rules.specs.Laws.{FundamentalCoproductLaw, CompleteCoproductLaw, ElementaryCoproductLaw, RibbonCoproductLaw, CounitLaw, MultLaw, CompatibilityLaw};
+ghost use Rattle.coproduct_rules.specs.Laws.{FundamentalCoproductLaw, CompleteCoproductLaw, ElementaryCoproductLaw, RibbonCoproductLaw, UpperPartsLaw, TreeCoproductLaw, CounitLaw, MultLaw, CompatibilityLaw};
 
 /// The coproduct of an element of `QSym.F` (Gessel 1984): for each k from 0 to its degree, the one pair
 /// of a composition J of k and one K of the rest such that its composition is J followed by K, or these
@@ -35,6 +35,23 @@ pub fn elementary_coproduct_law()
 /// Nothing is computed: callers cite the clause.
 pub fn ribbon_coproduct_law()
     ensures { RibbonCoproductLaw }
+{}
+
+/// The coproduct of an element of `PBT.P`, as readings (Loday, Ronco 1998; Hivert, Novelli, Thibon
+/// 2005): over the upper parts of its tree, the product of the elements of the subtrees that hang below
+/// the part, from left to right, tensor the element of the part.
+///
+/// Nothing is computed: callers cite the clause.
+pub fn upper_parts_law()
+    ensures { UpperPartsLaw }
+{}
+
+/// The coproduct of an element of `PBT.P`, by indices: where some rule lists codes that read as the
+/// products of elements, the pairs over all upper parts read as the coproduct.
+///
+/// Nothing is computed: callers cite the clause.
+pub fn tree_coproduct_law()
+    ensures { TreeCoproductLaw }
 {}
 
 /// The counit of a basis element is 1 at the empty index and 0 at every other, in every basis.
