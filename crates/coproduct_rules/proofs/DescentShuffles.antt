@@ -170,21 +170,3 @@ block (suc i) m w h = let flat : nat_lt m m ≡ false = grind (arith, nat_tests)
 below_more : (k : ℕ) (w : List ℕ) → AreLow k w → AllByRecursion (λ x. x < suc k) w
 below_more k [] h = tt
 below_more k (x ∷ w) h = (omega (arith, h.0), below_more k w h.1)
-
--- the word of a composition has it as its descent composition
-pub descent_composition-word : (parts : List ℕ) → IsComposition parts → descent_composition (word_of_composition parts) ≡ parts
-descent_composition-word [] h = refl
-descent_composition-word (zero ∷ parts) h = absurd (omega (arith, h.0))
-descent_composition-word (suc i ∷ parts) h =
-    block i (suc (length parts)) (word_of_composition parts) (below_more (length parts) (word_of_composition parts) (word_low parts))
-    ∙ ap (λ c. suc i ∷ c) (descent_composition-word parts h.1)
-
--- its letters are positive
-positive_blocks : (n m : ℕ) (w : List ℕ) → AllByRecursion (λ x. 0 < x) w → AllByRecursion (λ x. 0 < x) (replicate n (suc m) ++ w)
-positive_blocks zero m w h = h
-positive_blocks (suc n) m w h = (omega arith, positive_blocks n m w h)
-
--- the word of a composition has positive letters
-pub word_positive : (parts : List ℕ) → AllByRecursion (λ x. 0 < x) (word_of_composition parts)
-word_positive [] = tt
-word_positive (i ∷ parts) = positive_blocks i (length parts) (word_of_composition parts) (word_positive parts)

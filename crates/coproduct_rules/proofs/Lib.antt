@@ -10,10 +10,13 @@ pub mod DegreePairs
 pub mod DescentShuffles
 pub mod DoubleSums
 pub mod FundamentalRule
+pub mod InverseCuts
+pub mod InversePlaces
 pub mod KeyReadings
 pub mod LetterBlocks
 pub mod MultiplicativeRules
 pub mod PartPairs
+pub mod PlaceRule
 pub mod RaisedShuffles
 pub mod Raising
 pub mod Ranges

@@ -14,12 +14,12 @@ use Rattle.realisations.specs.Pairings.{longer_compositions, compositions}
 use Rattle.realisations.specs.Words.{greatest, raise, shuffles, shifted_shuffles}
 use Rattle.realisations.proofs.DescentCompositions.{descends}
 use Rattle.basis_representatives.proofs.Letters.{Letters-range}
+use Rattle.basis_representatives.proofs.BlockWords.{descent_composition-word_of_composition}
 use Rattle.coproduct_laws.specs.Coproducts.{ArePairs}
 use Rattle.coproduct_laws.proofs.ValuePairs.{suc-le-pow_two}
 use Rattle.coproduct_rules.specs.Laws.{RibbonCoproductLaw}
 use Rattle.coproduct_rules.specs.RibbonCuts.{ribbon_pair, ribbon_cuts}
 use Rattle.coproduct_rules.proofs.DegreeCuts.{sum-first}
-use Rattle.coproduct_rules.proofs.DescentShuffles.{descent_composition-word}
 use Rattle.coproduct_rules.proofs.PartPairs.{pow_two-suc, each_flat_map, any, length-flat_map-le}
 use Rattle.coproduct_rules.proofs.RibbonRule.{ribbon_coproduct}
 
@@ -81,7 +81,7 @@ length-compositions (suc n) =
 
 -- the word of a composition has the length of its sum
 length-word : (parts : List ℕ) → IsComposition parts → length (word_of_composition parts) ≡ sum parts
-length-word parts h = sym ((descends (word_of_composition parts)).0) ∙ ap sum (descent_composition-word parts h)
+length-word parts h = sym ((descends (word_of_composition parts)).0) ∙ ap sum (descent_composition-word_of_composition parts h)
 
 -- the pairs listed for two compositions
 few_of_pair : (parts j k : List ℕ) → IsComposition j → IsComposition k → length (ribbon_pair parts j k) ≤ 2 ^ (sum j + sum k)

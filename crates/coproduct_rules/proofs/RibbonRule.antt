@@ -13,6 +13,8 @@ use Rattle.basis_names.specs.declared.bases.BasisId.TheVariants.{NcsfR}
 use Rattle.realisations.proofs.DescentCompositions.{descends}
 use Rattle.realisations.proofs.Sums.{sums, sums-flat_map, sums-scale, sums_same, sums_none}
 use Rattle.realisations.specs.Points.{IsPoint, word}
+use Rattle.basis_representatives.proofs.BlockWords.{descent_composition-word_of_composition}
+use Rattle.realisations.proofs.PointsOfReadings.{word_composed}
 use Rattle.coproduct_laws.specs.Coproducts.{IsCoproduct}
 use Rattle.coproduct_rules.specs.RibbonCuts.{ribbon_pair, ribbon_cuts}
 use Rattle.coproduct_rules.proofs.Tests.{same_list-apart}
@@ -25,7 +27,7 @@ use Rattle.coproduct_laws.proofs.CoproductCounts.{coproduct_by_counts, at_points
 use Rattle.coproduct_laws.proofs.Rearrangements.{over_rearrangements}
 use Rattle.coproduct_rules.proofs.RearrangedLengths.{rearranges-length}
 use Rattle.coproduct_rules.proofs.Raising.{descent_composition-raise}
-use Rattle.coproduct_rules.proofs.DescentShuffles.{descent_composition-is, descent_shuffles, descent_composition-word, word_positive}
+use Rattle.coproduct_rules.proofs.DescentShuffles.{descent_composition-is, descent_shuffles}
 use Rattle.coproduct_rules.proofs.CompositionSums.{sums_selected}
 
 -- how many shuffles of words with these descent compositions have a descent composition
@@ -38,12 +40,12 @@ pub ribbon_counts : (parts u v : List ℕ) → IsPoint word v
 ribbon_counts parts u v positive =
     descent_shuffles (greatest u) (greatest (word_of_composition (descent_composition u))) (λ c. one_if (same_list c parts))
     u (raise (greatest u) v) (word_of_composition (descent_composition u)) (raise (greatest (word_of_composition (descent_composition u))) (word_of_composition (descent_composition v)))
-    (sym (descent_composition-word (descent_composition u) (descent_composition-is u)))
+    (sym (descent_composition-word_of_composition (descent_composition u) (descent_composition-is u)))
     (descent_composition-raise (greatest u) v
-    ∙ sym (descent_composition-raise (greatest (word_of_composition (descent_composition u))) (word_of_composition (descent_composition v)) ∙ descent_composition-word (descent_composition v) (descent_composition-is v)))
+    ∙ sym (descent_composition-raise (greatest (word_of_composition (descent_composition u))) (word_of_composition (descent_composition v)) ∙ descent_composition-word_of_composition (descent_composition v) (descent_composition-is v)))
     (low_from_greatest (greatest u) u (omega arith)) (high_raised (greatest u) v positive)
     (low_from_greatest (greatest (word_of_composition (descent_composition u))) (word_of_composition (descent_composition u)) (omega arith))
-    (high_raised (greatest (word_of_composition (descent_composition u))) (word_of_composition (descent_composition v)) (word_positive (descent_composition v)))
+    (high_raised (greatest (word_of_composition (descent_composition u))) (word_of_composition (descent_composition v)) (word_composed (descent_composition v)))
 
 -- none of them has another degree
 ribbon_apart : (parts u v : List ℕ) → (length u + length v ≡ sum parts → ⊥) → at_points NcsfR parts (shifted_shuffles u v) ≡ 0

@@ -1,7 +1,7 @@
 -- Laws of coproducts and counits. Public functions with empty bodies ensure them (`src/laws.rt`).
 use Rattle.std.specs.Prelude.{◌≡◌, List, [], ◌∷◌, map}
 use Rattle.basis_names.specs.declared.bases.BasisId.{BasisId}
-use Rattle.basis_names.specs.declared.bases.BasisId.TheVariants.{QsymF, NcsfS, NcsfL, NcsfR, PbtP}
+use Rattle.basis_names.specs.declared.bases.BasisId.TheVariants.{FqsymF, QsymF, NcsfS, NcsfL, NcsfR, PbtP}
 use Rattle.realisations.specs.Bases.{kind_of}
 use Rattle.realisations.specs.Codes.{Code}
 use Rattle.realisations.specs.Indices.{IsIndex}
@@ -13,6 +13,7 @@ use Rattle.coproduct_laws.specs.Coproducts.{IsCoproductRule}
 use Rattle.coproduct_rules.specs.Counits.{counit_terms, IsCounit}
 use Rattle.coproduct_rules.specs.DegreeCuts.{degree_cuts}
 use Rattle.coproduct_rules.specs.PartCuts.{part_cuts}
+use Rattle.coproduct_rules.specs.PlaceCuts.{place_cuts}
 use Rattle.coproduct_rules.specs.RibbonCuts.{ribbon_cuts}
 use Rattle.coproduct_rules.specs.UpperParts.{upper_parts, product_of_trees, AreProducts, upper_cuts}
 
@@ -31,6 +32,10 @@ ElementaryCoproductLaw = (parts : Code) → IsIndex NcsfL parts → IsCoproductR
 -- NCSF.R of a composition: all pairs of compositions, each as often as a shuffle of words with these descent compositions has the composition (Malvenuto, Reutenauer 1995)
 abbrev pub RibbonCoproductLaw : Type 0
 RibbonCoproductLaw = (parts : Code) → IsIndex NcsfR parts → IsCoproductRule NcsfR parts (ribbon_cuts parts)
+
+-- FQSym.F of a permutation: for each cut the standardisations of both words (Malvenuto, Reutenauer 1995)
+abbrev pub PlaceCoproductLaw : Type 0
+PlaceCoproductLaw = (s : Code) → IsIndex FqsymF s → IsCoproductRule FqsymF s (place_cuts s)
 
 -- PBT.P of a tree, as readings: over the upper parts of the tree, the product of the elements of the subtrees that hang below, tensor the element of the part (Loday, Ronco 1998; Hivert, Novelli, Thibon 2005)
 abbrev pub UpperPartsLaw : Type 0

@@ -4,5 +4,6 @@ pub mod DegreeCuts
 pub mod KnownPairs
 pub mod Laws
 pub mod PartCuts
+pub mod PlaceCuts
 pub mod RibbonCuts
 pub mod UpperParts

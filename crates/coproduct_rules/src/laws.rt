@@ -1,6 +1,6 @@
 //! Laws of coproducts and counits. A function here computes nothing: callers cite its clause.
 ghost use Rattle.coproduct_rules.specs.Components.{ComponentLaw, ComponentCounitLaw, ComponentMultLaw, LaterComponentLaw};
-ghost use Rattle.coproduct_rules.specs.Laws.{FundamentalCoproductLaw, CompleteCoproductLaw, ElementaryCoproductLaw, RibbonCoproductLaw, UpperPartsLaw, TreeCoproductLaw, CounitLaw, MultLaw, CompatibilityLaw};
+ghost use Rattle.coproduct_rules.specs.Laws.{FundamentalCoproductLaw, CompleteCoproductLaw, ElementaryCoproductLaw, RibbonCoproductLaw, PlaceCoproductLaw, UpperPartsLaw, TreeCoproductLaw, CounitLaw, MultLaw, CompatibilityLaw};
 
 /// The coproduct of an element of `QSym.F` (Gessel 1984): for each k from 0 to its degree, the one pair
 /// of a composition J of k and one K of the rest such that its composition is J followed by K, or these
@@ -35,6 +35,14 @@ pub fn elementary_coproduct_law()
 /// Nothing is computed: callers cite the clause.
 pub fn ribbon_coproduct_law()
     ensures { RibbonCoproductLaw }
+{}
+
+/// The coproduct of an element of `FQSym.F` (Malvenuto, Reutenauer 1995): for each cut of its permutation
+/// into two words, the tensor of their standardisations.
+///
+/// Nothing is computed: callers cite the clause.
+pub fn place_coproduct_law()
+    ensures { PlaceCoproductLaw }
 {}
 
 /// The coproduct of an element of `PBT.P`, as readings (Loday, Ronco 1998; Hivert, Novelli, Thibon
