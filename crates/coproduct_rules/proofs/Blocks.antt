@@ -28,7 +28,7 @@ ends_in ok zero (suc j ∷ parts) x (y ∷ w) = ends_in ok j parts y w
 ends_in ok (suc i) parts x [] = false
 ends_in ok (suc i) parts x (y ∷ w) = ok x y && ends_in ok i parts y w
 
--- the splits behind a letter
+-- the splits after a letter
 tails : (ℕ → ℕ → Bool) → ℕ → List ℕ → ℕ → List ℕ → ℕ
 tails ok i parts x w = over_word_cuts (λ a b. one_if_same (length a) i * (one_if (is_chain ok (x ∷ a)) * splits (is_chain ok) parts b)) w
 
@@ -56,13 +56,13 @@ tails-none : (ok : ℕ → ℕ → Bool) (i : ℕ) (parts : List ℕ) (x : ℕ) 
 unfolding tails
 tails-none ok i parts x = omega arith
 
--- the splits of a nonempty word are those behind its first letter
+-- the splits of a nonempty word are those after its first letter
 splits-suc : (ok : ℕ → ℕ → Bool) (i : ℕ) (parts : List ℕ) (x : ℕ) (w : List ℕ) → splits (is_chain ok) (suc i ∷ parts) (x ∷ w) ≡ tails ok i parts x w
 unfolding tails
 splits-suc ok i parts x w =
     over_word_cuts-step (λ a b. one_if_same (length a) (suc i) * (one_if (is_chain ok a) * splits (is_chain ok) parts b)) x w ∙ omega arith
 
--- so the splits behind a letter are one or none, by recursion
+-- so the splits after a letter are one or none, by recursion
 tails_are : (ok : ℕ → ℕ → Bool) (i : ℕ) (parts : List ℕ) (x : ℕ) (w : List ℕ) → IsComposition parts → tails ok i parts x w ≡ one_if (ends_in ok i parts x w)
 tails_are ok zero [] x [] h = tails-zero ok [] x []
 tails_are ok zero [] x (y ∷ w) h = tails-zero ok [] x (y ∷ w)

@@ -32,27 +32,27 @@ over_shuffles_comm f (x ∷ u) (y ∷ v) =
 -- letters of two kinds, such that the first kind may stand before the second and never after it
 module _ (P Q : ℕ → Type 0) (ok : ℕ → ℕ → Bool) (forward : (x y : ℕ) → P x → Q y → ok x y ≡ true) (back : (x y : ℕ) → P x → Q y → ok y x ≡ false) where
   -- no chain has a letter of the second kind and later one of the first
-  none_behind : (y x : ℕ) (a b : List ℕ) → Q y → P x → AllByRecursion Q b → over_shuffles (λ w. one_if (is_chain ok (y ∷ w))) (x ∷ a) b ≡ 0
-  none_behind y x a [] hy hx hb = rw (back x y hx hy) refl
-  none_behind y x a (z ∷ b) hy hx hb =
+  none_after : (y x : ℕ) (a b : List ℕ) → Q y → P x → AllByRecursion Q b → over_shuffles (λ w. one_if (is_chain ok (y ∷ w))) (x ∷ a) b ≡ 0
+  none_after y x a [] hy hx hb = rw (back x y hx hy) refl
+  none_after y x a (z ∷ b) hy hx hb =
       over_shuffles-step (λ w. one_if (is_chain ok (y ∷ w))) x a z b
-      ∙ omega (arith, first, sums-tested (ok y z) (λ w. is_chain ok (z ∷ w)) (shuffles (x ∷ a) b), ap (λ n. one_if (ok y z) * n) (none_behind z x a b hb.0 hx hb.1))
+      ∙ omega (arith, first, sums-tested (ok y z) (λ w. is_chain ok (z ∷ w)) (shuffles (x ∷ a) b), ap (λ n. one_if (ok y z) * n) (none_after z x a b hb.0 hx hb.1))
     where
       first : over_shuffles (λ w. one_if (is_chain ok (y ∷ x ∷ w))) a (z ∷ b) ≡ 0
       first = rw (back x y hx hy) (sums_none (λ w. 0) (λ w. refl) (shuffles a (z ∷ b)))
 
-  -- behind a letter of the first kind
-  behind : (x : ℕ) (a : List ℕ) (y : ℕ) (b : List ℕ) → P x → AllByRecursion P a → Q y → AllByRecursion Q b
+  -- after a letter of the first kind
+  after : (x : ℕ) (a : List ℕ) (y : ℕ) (b : List ℕ) → P x → AllByRecursion P a → Q y → AllByRecursion Q b
       → over_shuffles (λ w. one_if (is_chain ok (x ∷ w))) a (y ∷ b) ≡ one_if (is_chain ok (x ∷ a)) * one_if (is_chain ok (y ∷ b))
-  behind x [] y b hx ha hy hb = rw (forward x y hx hy) (omega arith)
-  behind x (x' ∷ a) y b hx ha hy hb =
+  after x [] y b hx ha hy hb = rw (forward x y hx hy) (omega arith)
+  after x (x' ∷ a) y b hx ha hy hb =
       over_shuffles-step (λ w. one_if (is_chain ok (x ∷ w))) x' a y b
       ∙ omega (
         arith,
         sums-tested (ok x x') (λ w. is_chain ok (x' ∷ w)) (shuffles a (y ∷ b)),
         sums-tested (ok x y) (λ w. is_chain ok (y ∷ w)) (shuffles (x' ∷ a) b),
-        ap (λ n. one_if (ok x x') * n) (behind x' a y b ha.0 ha.1 hy hb),
-        ap (λ n. one_if (ok x y) * n) (none_behind y x' a b hy ha.0 hb),
+        ap (λ n. one_if (ok x x') * n) (after x' a y b ha.0 ha.1 hy hb),
+        ap (λ n. one_if (ok x y) * n) (none_after y x' a b hy ha.0 hb),
         ap (λ n. n * one_if (is_chain ok (y ∷ b))) (one_if-and (ok x x') (is_chain ok (x' ∷ a))),
       )
 
@@ -63,4 +63,4 @@ module _ (P Q : ℕ → Type 0) (ok : ℕ → ℕ → Bool) (forward : (x y : �
   chain_shuffles (x ∷ a) [] ha hb = omega arith
   chain_shuffles (x ∷ a) (y ∷ b) ha hb =
       over_shuffles-step (λ w. one_if (is_chain ok w)) x a y b
-      ∙ omega (arith, behind x a y b ha.0 ha.1 hb.0 hb.1, none_behind y x a b hb.0 ha.0 hb.1)
+      ∙ omega (arith, after x a y b ha.0 ha.1 hb.0 hb.1, none_after y x a b hb.0 ha.0 hb.1)

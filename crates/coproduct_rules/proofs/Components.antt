@@ -24,9 +24,9 @@ front_factor o m true e = rw e (omega (arith, ints))
 front_factor o m false e = rw e (omega (arith, ints))
 
 -- a key with one more code in front reads as the product of its occurrence and the rest
-numerator-behind : (basis : BasisId) (bases : List BasisId) (code : List ℕ) (key : List (List ℕ)) (p : List ℕ) (ps : List (List ℕ))
+numerator-after : (basis : BasisId) (bases : List BasisId) (code : List ℕ) (key : List (List ℕ)) (p : List ℕ) (ps : List (List ℕ))
     → numerator (of_key (basis ∷ bases) (code ∷ key)) (p ∷ ps) ≡ pos (one_if (occurs basis code p)) *ℤ numerator (of_key bases key) ps
-numerator-behind basis bases code key p ps = by_test (occurs basis code p) (occurrence bases key ps)
+numerator-after basis bases code key p ps = by_test (occurs basis code p) (occurrence bases key ps)
   where
     by_test : (b : Bool) (m : ℕ) → (pos 1 *ℤ pos (one_if b * m)) +ℤ pos 0 ≡ pos (one_if b) *ℤ ((pos 1 *ℤ pos m) +ℤ pos 0)
     by_test true m = omega (arith, ints)
@@ -43,15 +43,15 @@ times-zero true = refl
 times-zero false = refl
 
 -- an operation on a later component multiplies by the occurrence of the first
-pub operation_behind : LaterComponentLaw
-operation_behind operation n basis bases code key p ps = each (reads_at n operation (map kind_of bases) ps)
+pub operation_after : LaterComponentLaw
+operation_after operation n basis bases code key p ps = each (reads_at n operation (map kind_of bases) ps)
   where
     each : (rs : List (ℕ × List (List ℕ)))
         → int_sum (map (λ (r : ℕ × List (List ℕ)). with_sign r.0 (numerator (of_key (basis ∷ bases) (code ∷ key)) r.1)) (map (λ (r : ℕ × List (List ℕ)). (r.0, p ∷ r.1)) rs))
         ≡ pos (one_if (occurs basis code p)) *ℤ int_sum (map (λ (r : ℕ × List (List ℕ)). with_sign r.0 (numerator (of_key bases key) r.1)) rs)
     each [] = times-zero (occurs basis code p)
     each (r ∷ rs) =
-        let first = ap (λ z. with_sign r.0 z) (numerator-behind basis bases code key p r.1) ∙ with_sign-times r.0 (pos (one_if (occurs basis code p))) (numerator (of_key bases key) r.1) in
+        let first = ap (λ z. with_sign r.0 z) (numerator-after basis bases code key p r.1) ∙ with_sign-times r.0 (pos (one_if (occurs basis code p))) (numerator (of_key bases key) r.1) in
         (λ i. first i +ℤ each rs i)
         ∙ sym (*ℤ-+ℤ (pos (one_if (occurs basis code p))) (with_sign r.0 (numerator (of_key bases key) r.1)) (int_sum (map (λ (r : ℕ × List (List ℕ)). with_sign r.0 (numerator (of_key bases key) r.1)) rs)))
 
@@ -71,11 +71,11 @@ pairs_first basis bases key u v ps [] = omega (arith, ints)
 pairs_first basis bases key u v ps (e ∷ pairs) = omega (arith, ints, pairs_first basis bases key u v ps pairs)
 
 -- terms with one more code in front read as the product of its occurrence and the rest
-pairs_behind : (basis : BasisId) (bases : List BasisId) (code p : List ℕ) (f : List ℕ × List ℕ → List (List ℕ)) (ps : List (List ℕ)) (pairs : List (List ℕ × List ℕ))
+pairs_after : (basis : BasisId) (bases : List BasisId) (code p : List ℕ) (f : List ℕ × List ℕ → List (List ℕ)) (ps : List (List ℕ)) (pairs : List (List ℕ × List ℕ))
     → numerator (leaf (basis ∷ bases) 1 (map (λ e. (pos 1, code ∷ f e)) pairs)) (p ∷ ps) ≡ pos (one_if (occurs basis code p)) *ℤ numerator (leaf bases 1 (map (λ e. (pos 1, f e)) pairs)) ps
-pairs_behind basis bases code p f ps [] = times-zero (occurs basis code p)
-pairs_behind basis bases code p f ps (e ∷ pairs) =
-    (λ i. front_factor (one_if (occurs basis code p)) (occurrence bases (f e) ps) (occurs basis code p) refl i +ℤ pairs_behind basis bases code p f ps pairs i)
+pairs_after basis bases code p f ps [] = times-zero (occurs basis code p)
+pairs_after basis bases code p f ps (e ∷ pairs) =
+    (λ i. front_factor (one_if (occurs basis code p)) (occurrence bases (f e) ps) (occurs basis code p) refl i +ℤ pairs_after basis bases code p f ps pairs i)
     ∙ sym (*ℤ-+ℤ (pos (one_if (occurs basis code p))) (pos 1 *ℤ pos (occurrence bases (f e) ps)) (numerator (leaf bases 1 (map (λ e. (pos 1, f e)) pairs)) ps))
 
 -- a coproduct rule holds on each component
@@ -103,9 +103,9 @@ component_rule (suc n) (basis ∷ bases) (code ∷ key) pairs h (p ∷ ps) point
     let rest : numerator (leaf (doubled_at n bases) 1 (map (λ e. (pos 1, with_pair_at n e key)) pairs)) ps ≡ numerator (applied coproduct n (of_key bases key)) ps
     = whole _ _ (component_rule n bases key pairs h ps points.1) in
     ap (λ z. z *ℤ pos 1)
-    (pairs_behind basis (doubled_at n bases) code p (λ e. with_pair_at n e key) ps pairs
+    (pairs_after basis (doubled_at n bases) code p (λ e. with_pair_at n e key) ps pairs
     ∙ ap (λ z. pos (one_if (occurs basis code p)) *ℤ z) rest
-    ∙ sym (operation_behind coproduct n basis bases code key p ps))
+    ∙ sym (operation_after coproduct n basis bases code key p ps))
   where
     whole : (y z : ℤ) → y *ℤ pos 1 ≡ z *ℤ pos 1 → y ≡ z
     whole y z e = omega (arith, ints, e)
@@ -113,7 +113,7 @@ component_rule (suc n) (basis ∷ bases) (code ∷ key) pairs h (p ∷ ps) point
 -- the counit of the first component multiplies by its occurrence at the empty point
 pub counit_first : (basis : BasisId) (bases : List BasisId) (code : List ℕ) (key : List (List ℕ)) (ps : List (List ℕ))
     → numerator (applied counit 0 (of_key (basis ∷ bases) (code ∷ key))) ps ≡ pos (one_if (occurs basis code [])) *ℤ numerator (of_key bases key) ps
-counit_first basis bases code key ps = omega (arith, ints, numerator-behind basis bases code key [] ps)
+counit_first basis bases code key ps = omega (arith, ints, numerator-after basis bases code key [] ps)
 
 -- the counit rule holds on each component
 counit_at : (n : ℕ) (bases : List BasisId) (key : List (List ℕ)) → n < length bases → AreIndices bases key → (ps : List (List ℕ))
@@ -128,10 +128,10 @@ counit_at (suc n) (basis ∷ bases) (code ∷ key) h indices [] = nothing (same_
     nothing true = refl
     nothing false = refl
 counit_at (suc n) (basis ∷ bases) (code ∷ key) h indices (p ∷ ps) =
-    operation_behind counit n basis bases code key p ps
+    operation_after counit n basis bases code key p ps
     ∙ ap (λ z. pos (one_if (occurs basis code p)) *ℤ z) (counit_at n bases key (omega arith) indices.1 ps)
     ∙ swap (pos (one_if (occurs basis code p))) (pos (one_if (same_list (slice_index_or key n []) []))) (numerator (of_key (without_at n bases) (without_at n key)) ps)
-    ∙ ap (λ z. pos (one_if (same_list (slice_index_or key n []) [])) *ℤ z) (sym (numerator-behind basis (without_at n bases) code (without_at n key) p ps))
+    ∙ ap (λ z. pos (one_if (same_list (slice_index_or key n []) [])) *ℤ z) (sym (numerator-after basis (without_at n bases) code (without_at n key) p ps))
   where
     swap : (x y z : ℤ) → x *ℤ (y *ℤ z) ≡ y *ℤ (x *ℤ z)
     swap x y z = *ℤ_assoc x y z ∙ ap (λ w. w *ℤ z) (*ℤ_comm x y) ∙ sym (*ℤ_assoc y x z)

@@ -94,7 +94,7 @@ partial_sums_same f g s (i ∷ j ∷ parts) h same =
     let rest = partial_sums_same f g (s + i) (j ∷ parts) h.1 (λ e a b. same e (omega arith) (omega (arith, total, sum-first j parts))) in
     λ n. here n && rest n
 
--- partial sums behind a larger sum
+-- partial sums after a larger sum
 pub partial_sums_shift : (f : ℕ → Bool) (k s : ℕ) (parts : List ℕ) → list_all f (partial_sums (k + s) parts) ≡ list_all (λ e. f (k + e)) (partial_sums s parts)
 partial_sums_shift f k s [] = refl
 partial_sums_shift f k s (i ∷ []) = refl

@@ -1,12 +1,10 @@
 -- The descent compositions of the shuffles of two words depend on the descent compositions of the words alone.
-use Rattle.std.proofs.Common.{◌≡◌, ℕ, zero, suc, ◌+◌, ◌<◌, ◌≤◌, Bool, true, false, List, [], ◌∷◌, ◌++◌, length, refl, sym, ◌∙◌, ap, arith}
-use Rattle.std.specs.Prelude.{nat_lt, if◌then◌else◌, replicate}
-use Rattle.std.specs.List.{AllByRecursion}
+use Rattle.std.proofs.Common.{◌≡◌, ℕ, suc, ◌+◌, ◌<◌, ◌≤◌, Bool, true, false, List, [], ◌∷◌, refl, sym, ◌∙◌, ap, arith}
+use Rattle.std.specs.Prelude.{nat_lt, if◌then◌else◌}
 use Rattle.std.proofs.lemmas.Bool.Decides.{nat_tests}
-use Rattle.realisations.specs.Descents.{longer_first, descent_composition, word_of_composition}
+use Rattle.realisations.specs.Descents.{longer_first, descent_composition}
 use Rattle.realisations.specs.IndexKinds.{IsComposition}
 use Rattle.coproduct_rules.proofs.Tests.{same_heads}
-use Rattle.coproduct_rules.proofs.LetterBlocks.{low_block}
 use Rattle.coproduct_laws.proofs.LowAndHigh.{AreLow, AreHigh}
 use Rattle.coproduct_laws.proofs.Shuffling.{over_shuffles, over_shuffles-step}
 
@@ -104,20 +102,20 @@ module _ (g g' : ℕ) where
   high_low : (x y x' y' : ℕ) → x ≤ g → g < y → x' ≤ g' → g' < y' → nat_lt x y ≡ nat_lt x' y'
   high_low x y x' y' a b c d = grind (arith, nat_tests)
 
-  -- behind a letter
-  alike_behind : (f : List ℕ → ℕ) (z : ℕ) (u v : List ℕ) (z' : ℕ) (u' v' : List ℕ) → FallAlike (z ∷ u) (z' ∷ u') → FallAlike (z ∷ v) (z' ∷ v')
+  -- after a letter
+  alike_after : (f : List ℕ → ℕ) (z : ℕ) (u v : List ℕ) (z' : ℕ) (u' v' : List ℕ) → FallAlike (z ∷ u) (z' ∷ u') → FallAlike (z ∷ v) (z' ∷ v')
       → AreLow g u → AreHigh g v → AreLow g' u' → AreHigh g' v'
       → over_shuffles (λ w. f (descent_composition (z ∷ w))) u v ≡ over_shuffles (λ w. f (descent_composition (z' ∷ w))) u' v'
-  alike_behind f z [] v z' [] v' hu hv lu hiv lu' hiv' = ap (λ c. f c + 0) (composition_alike (z ∷ v) (z' ∷ v') hv)
-  alike_behind f z [] v z' (x' ∷ u') v' hu hv lu hiv lu' hiv' = absurd hu
-  alike_behind f z (x ∷ u) v z' [] v' hu hv lu hiv lu' hiv' = absurd hu
-  alike_behind f z (x ∷ u) [] z' (x' ∷ u') [] hu hv lu hiv lu' hiv' = ap (λ c. f c + 0) (composition_alike (z ∷ x ∷ u) (z' ∷ x' ∷ u') hu)
-  alike_behind f z (x ∷ u) [] z' (x' ∷ u') (y' ∷ v') hu hv lu hiv lu' hiv' = absurd hv
-  alike_behind f z (x ∷ u) (y ∷ v) z' (x' ∷ u') [] hu hv lu hiv lu' hiv' = absurd hv
-  alike_behind f z (x ∷ u) (y ∷ v) z' (x' ∷ u') (y' ∷ v') hu hv lu hiv lu' hiv' =
-      let first = alike_behind (λ c. f (one_more (nat_lt x z) c)) x u (y ∷ v) x' u' (y' ∷ v') hu.1 (low_high x y x' y' lu.0 hiv.0 lu'.0 hiv'.0, hv.1) lu.1 hiv lu'.1 hiv'
+  alike_after f z [] v z' [] v' hu hv lu hiv lu' hiv' = ap (λ c. f c + 0) (composition_alike (z ∷ v) (z' ∷ v') hv)
+  alike_after f z [] v z' (x' ∷ u') v' hu hv lu hiv lu' hiv' = absurd hu
+  alike_after f z (x ∷ u) v z' [] v' hu hv lu hiv lu' hiv' = absurd hu
+  alike_after f z (x ∷ u) [] z' (x' ∷ u') [] hu hv lu hiv lu' hiv' = ap (λ c. f c + 0) (composition_alike (z ∷ x ∷ u) (z' ∷ x' ∷ u') hu)
+  alike_after f z (x ∷ u) [] z' (x' ∷ u') (y' ∷ v') hu hv lu hiv lu' hiv' = absurd hv
+  alike_after f z (x ∷ u) (y ∷ v) z' (x' ∷ u') [] hu hv lu hiv lu' hiv' = absurd hv
+  alike_after f z (x ∷ u) (y ∷ v) z' (x' ∷ u') (y' ∷ v') hu hv lu hiv lu' hiv' =
+      let first = alike_after (λ c. f (one_more (nat_lt x z) c)) x u (y ∷ v) x' u' (y' ∷ v') hu.1 (low_high x y x' y' lu.0 hiv.0 lu'.0 hiv'.0, hv.1) lu.1 hiv lu'.1 hiv'
       ∙ ap (λ b. over_shuffles (λ w. f (one_more b (descent_composition (x' ∷ w)))) u' (y' ∷ v')) hu.0 in
-      let second = alike_behind (λ c. f (one_more (nat_lt y z) c)) y (x ∷ u) v y' (x' ∷ u') v' (high_low x y x' y' lu.0 hiv.0 lu'.0 hiv'.0, hu.1) hv.1 lu hiv.1 lu' hiv'.1
+      let second = alike_after (λ c. f (one_more (nat_lt y z) c)) y (x ∷ u) v y' (x' ∷ u') v' (high_low x y x' y' lu.0 hiv.0 lu'.0 hiv'.0, hu.1) hv.1 lu hiv.1 lu' hiv'.1
       ∙ ap (λ b. over_shuffles (λ w. f (one_more b (descent_composition (y' ∷ w)))) (x' ∷ u') v') hv.0 in
       over_shuffles-step (λ w. f (descent_composition (z ∷ w))) x u y v
       ∙ (λ i. first i + second i)
@@ -135,8 +133,8 @@ module _ (g g' : ℕ) where
   alike_shuffles f (x ∷ u) (y ∷ []) (x' ∷ u') [] hu hv lu hiv lu' hiv' = absurd hv
   alike_shuffles f (x ∷ u) (y ∷ y₂ ∷ v) (x' ∷ u') [] hu hv lu hiv lu' hiv' = absurd hv
   alike_shuffles f (x ∷ u) (y ∷ v) (x' ∷ u') (y' ∷ v') hu hv lu hiv lu' hiv' =
-      let first = alike_behind f x u (y ∷ v) x' u' (y' ∷ v') hu (low_high x y x' y' lu.0 hiv.0 lu'.0 hiv'.0, hv) lu.1 hiv lu'.1 hiv' in
-      let second = alike_behind f y (x ∷ u) v y' (x' ∷ u') v' (high_low x y x' y' lu.0 hiv.0 lu'.0 hiv'.0, hu) hv lu hiv.1 lu' hiv'.1 in
+      let first = alike_after f x u (y ∷ v) x' u' (y' ∷ v') hu (low_high x y x' y' lu.0 hiv.0 lu'.0 hiv'.0, hv) lu.1 hiv lu'.1 hiv' in
+      let second = alike_after f y (x ∷ u) v y' (x' ∷ u') v' (high_low x y x' y' lu.0 hiv.0 lu'.0 hiv'.0, hu) hv lu hiv.1 lu' hiv'.1 in
       over_shuffles-step (λ w. f (descent_composition w)) x u y v
       ∙ (λ i. first i + second i)
       ∙ sym (over_shuffles-step (λ w. f (descent_composition w)) x' u' y' v')
@@ -147,26 +145,3 @@ module _ (g g' : ℕ) where
       → over_shuffles (λ w. f (descent_composition w)) u v ≡ over_shuffles (λ w. f (descent_composition w)) u' v'
   descent_shuffles f u v u' v' eu ev lu hiv lu' hiv' =
       alike_shuffles f u v u' v' (alike_from_compositions u u' eu) (alike_from_compositions v v' ev) lu hiv lu' hiv'
-
--- the word of a composition
-
--- low letters are low for a greater bound
-low_more : (k l : ℕ) (w : List ℕ) → k ≤ l → AreLow k w → AreLow l w
-low_more k l [] h hw = tt
-low_more k l (x ∷ w) h hw = (omega (arith, hw.0), low_more k l w h hw.1)
-
--- the word of a composition of r parts has letters up to r
-word_low : (parts : List ℕ) → AreLow (length parts) (word_of_composition parts)
-word_low [] = tt
-word_low (i ∷ parts) = low_block (suc (length parts)) i (suc (length parts)) (word_of_composition parts) (omega arith) (low_more (length parts) (suc (length parts)) (word_of_composition parts) (omega arith) (word_low parts))
-
--- a block of equal letters before smaller ones is a part
-block : (i m : ℕ) (w : List ℕ) → AllByRecursion (λ x. x < m) w → descent_composition (replicate (suc i) m ++ w) ≡ suc i ∷ descent_composition w
-block zero m [] h = refl
-block zero m (y ∷ w) h = let falls : nat_lt y m ≡ true = grind (arith, nat_tests, h.0) in rw falls refl
-block (suc i) m w h = let flat : nat_lt m m ≡ false = grind (arith, nat_tests) in rw flat (ap longer_first (block i m w h))
-
--- letters up to k are below k + 1
-below_more : (k : ℕ) (w : List ℕ) → AreLow k w → AllByRecursion (λ x. x < suc k) w
-below_more k [] h = tt
-below_more k (x ∷ w) h = (omega (arith, h.0), below_more k w h.1)

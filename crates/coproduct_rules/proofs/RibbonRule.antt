@@ -114,9 +114,9 @@ ribbon_coproduct parts = coproduct_by_counts NcsfR parts (ribbon_cuts parts) (λ
         → one_if (nat_eq (length u) d) * (one_if (nat_eq (length v) (sum parts - d)) * ribbon_number parts (descent_composition u) (descent_composition v)) ≡ 0
     none u v d apart = ap (λ n. n * (one_if (nat_eq (length v) (sum parts - d)) * ribbon_number parts (descent_composition u) (descent_composition v))) (differ (length u) d apart) ∙ omega arith
 
-    none_behind : (u v : List ℕ) (d : ℕ) → (length v ≡ sum parts - d → ⊥)
+    none_after : (u v : List ℕ) (d : ℕ) → (length v ≡ sum parts - d → ⊥)
         → one_if (nat_eq (length u) d) * (one_if (nat_eq (length v) (sum parts - d)) * ribbon_number parts (descent_composition u) (descent_composition v)) ≡ 0
-    none_behind u v d apart =
+    none_after u v d apart =
         ap (λ n. one_if (nat_eq (length u) d) * (n * ribbon_number parts (descent_composition u) (descent_composition v))) (differ (length v) (sum parts - d) apart) ∙ omega arith
 
     pairs : (u v : List ℕ) → at_pair NcsfR u v (ribbon_cuts parts) ≡ sums (λ d. at_degree u v d) (range_with_len 0 (suc (sum parts)))
@@ -136,7 +136,7 @@ ribbon_coproduct parts = coproduct_by_counts NcsfR parts (ribbon_cuts parts) (λ
           | inl less ↦ none u v d (λ e. omega arith)
           | inr p ↦ elim (cases_lt d (length u)) [
             | inl more ↦ none u v d (λ e. omega arith)
-            | inr q ↦ none_behind u v d (λ e. apart (omega arith))
+            | inr q ↦ none_after u v d (λ e. apart (omega arith))
           ]
         ]
 

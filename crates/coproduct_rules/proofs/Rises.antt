@@ -6,12 +6,12 @@ use Rattle.realisations.specs.Lists.{is_among}
 use Rattle.realisations.specs.Descents.{places_where, ascents}
 use Rattle.coproduct_laws.proofs.LowAndHigh.{AreLow, AreHigh}
 
--- whether the letter behind d letters is smaller than the next one
-pub rises_behind : ℕ → List ℕ → Bool
-rises_behind d [] = false
-rises_behind d (x ∷ []) = false
-rises_behind zero (x ∷ y ∷ w) = nat_lt x y
-rises_behind (suc d) (x ∷ y ∷ w) = rises_behind d (y ∷ w)
+-- whether the letter after d letters is smaller than the next one
+pub rises_after : ℕ → List ℕ → Bool
+rises_after d [] = false
+rises_after d (x ∷ []) = false
+rises_after zero (x ∷ y ∷ w) = nat_lt x y
+rises_after (suc d) (x ∷ y ∷ w) = rises_after d (y ∷ w)
 
 -- no place is before the first
 pub past_places : (test : ℕ → ℕ → Bool) (k e : ℕ) (w : List ℕ) → e < k → is_among e (places_where test k w) ≡ false
@@ -24,9 +24,9 @@ past_places test k e (x ∷ y ∷ w) h = by_test (test x y) (past_places test (s
     by_test true ih = let d : nat_eq k e ≡ false = grind (arith, nat_tests) in rw (d, ih) refl
     by_test false ih = ih
 
--- the places of ascents are those behind which the word rises
-among_places : (k d : ℕ) (w : List ℕ) → is_among (k + d) (places_where (λ x y. nat_lt x y) k w) ≡ rises_behind d w
-unfolding rises_behind
+-- the places of ascents are those after which the word rises
+among_places : (k d : ℕ) (w : List ℕ) → is_among (k + d) (places_where (λ x y. nat_lt x y) k w) ≡ rises_after d w
+unfolding rises_after
 among_places k d [] = refl
 among_places k d (x ∷ []) = refl
 among_places k zero (x ∷ y ∷ w) = by_test (nat_lt x y) (past_places (λ x y. nat_lt x y) (suc k) (k + 0) (y ∷ w) (omega arith))
@@ -37,8 +37,8 @@ among_places k zero (x ∷ y ∷ w) = by_test (nat_lt x y) (past_places (λ x y.
     by_test false none = none
 among_places k (suc d) (x ∷ y ∷ w) = by_test (nat_lt x y) (among_places (suc k) d (y ∷ w))
   where
-    by_test : (b : Bool) → is_among (suc k + d) (places_where (λ x y. nat_lt x y) (suc k) (y ∷ w)) ≡ rises_behind d (y ∷ w)
-        → is_among (k + suc d) (if b then k ∷ places_where (λ x y. nat_lt x y) (suc k) (y ∷ w) else places_where (λ x y. nat_lt x y) (suc k) (y ∷ w)) ≡ rises_behind d (y ∷ w)
+    by_test : (b : Bool) → is_among (suc k + d) (places_where (λ x y. nat_lt x y) (suc k) (y ∷ w)) ≡ rises_after d (y ∷ w)
+        → is_among (k + suc d) (if b then k ∷ places_where (λ x y. nat_lt x y) (suc k) (y ∷ w) else places_where (λ x y. nat_lt x y) (suc k) (y ∷ w)) ≡ rises_after d (y ∷ w)
     by_test true ih =
         let apart : nat_eq k (k + suc d) ≡ false = grind (arith, nat_tests) in
         let same : k + suc d ≡ suc k + d = omega arith in
@@ -48,22 +48,22 @@ among_places k (suc d) (x ∷ y ∷ w) = by_test (nat_lt x y) (among_places (suc
         ap (λ n. is_among n (places_where (λ x y. nat_lt x y) (suc k) (y ∷ w))) same ∙ ih
 
 -- an ascent, by the letters before it
-pub among_ascents : (e d : ℕ) (w : List ℕ) → e ≡ suc d → is_among e (ascents w) ≡ rises_behind d w
+pub among_ascents : (e d : ℕ) (w : List ℕ) → e ≡ suc d → is_among e (ascents w) ≡ rises_after d w
 among_ascents e d w same =
     let one : e ≡ 1 + d = omega (arith, same) in
     ap (λ n. is_among n (ascents w)) one ∙ among_places 1 d w
 
 -- within the first word, between the words, and within the second
-rises_within : (d : ℕ) (a b : List ℕ) → suc d < length a → rises_behind d (a ++ b) ≡ rises_behind d a
-unfolding rises_behind
+rises_within : (d : ℕ) (a b : List ℕ) → suc d < length a → rises_after d (a ++ b) ≡ rises_after d a
+unfolding rises_after
 rises_within d [] b h = absurd (omega arith)
 rises_within d (x ∷ []) b h = absurd (omega arith)
 rises_within zero (x ∷ y ∷ a) b h = refl
 rises_within (suc d) (x ∷ y ∷ a) b h = rises_within d (y ∷ a) b (omega arith)
 
 -- between the words
-rises_between : (g d : ℕ) (a b : List ℕ) → AreLow g a → AreHigh g b → suc d ≡ length a → 0 < length b → rises_behind d (a ++ b) ≡ true
-unfolding rises_behind
+rises_between : (g d : ℕ) (a b : List ℕ) → AreLow g a → AreHigh g b → suc d ≡ length a → 0 < length b → rises_after d (a ++ b) ≡ true
+unfolding rises_after
 rises_between g d [] b ha hb e h = absurd (omega arith)
 rises_between g d (x ∷ a) [] ha hb e h = absurd (omega arith)
 rises_between g zero (x ∷ []) (y ∷ b) ha hb e h = grind (arith, nat_tests, ha.0, hb.0)
@@ -72,15 +72,15 @@ rises_between g zero (x ∷ x' ∷ a) (y ∷ b) ha hb e h = absurd (omega arith)
 rises_between g (suc d) (x ∷ x' ∷ a) (y ∷ b) ha hb e h = rises_between g d (x' ∷ a) (y ∷ b) ha.1 hb (omega arith) h
 
 -- within the second word
-rises_later : (d n : ℕ) (a b : List ℕ) → n ≡ length a + d → rises_behind n (a ++ b) ≡ rises_behind d b
-unfolding rises_behind
-rises_later d n [] b e = ap (λ m. rises_behind m b) (omega arith)
+rises_later : (d n : ℕ) (a b : List ℕ) → n ≡ length a + d → rises_after n (a ++ b) ≡ rises_after d b
+unfolding rises_after
+rises_later d n [] b e = ap (λ m. rises_after m b) (omega arith)
 rises_later d zero (x ∷ a) b e = absurd (omega arith)
 rises_later d (suc n) (x ∷ []) [] e = by_tests d
   where
-    by_tests : (d : ℕ) → false ≡ rises_behind d []
+    by_tests : (d : ℕ) → false ≡ rises_after d []
     by_tests d = refl
-rises_later d (suc n) (x ∷ []) (y ∷ b) e = ap (λ m. rises_behind m (y ∷ b)) (omega arith)
+rises_later d (suc n) (x ∷ []) (y ∷ b) e = ap (λ m. rises_after m (y ∷ b)) (omega arith)
 rises_later d (suc n) (x ∷ x' ∷ a) b e = rises_later d n (x' ∷ a) b (omega arith)
 
 -- an ascent before the end of the first word

@@ -20,11 +20,6 @@ pub or_first : (a b : Bool) → b ≡ false → a || b ≡ true → a ≡ true
 or_first true b e h = refl
 or_first false b e h = absurd (cc)
 
--- and not the first
-pub or_second : (a b : Bool) → a ≡ false → a || b ≡ true → b ≡ true
-or_second true b e h = absurd (cc)
-or_second false b e h = h
-
 -- the second holds, so one of them
 pub or_right : (a b : Bool) → b ≡ true → a || b ≡ true
 or_right true b e = refl
