@@ -1,5 +1,5 @@
 -- An operation on a component of a key leaves the other components, and so a coproduct rule holds on each component.
-use Rattle.std.proofs.Common.{◌≡◌, ℕ, zero, suc, ◌*◌, Bool, true, false, List, [], ◌∷◌, map, refl, sym, ◌∙◌, ap, arith, ◌<◌, length}
+use Rattle.std.proofs.Common.{◌≡◌, ℕ, zero, suc, ◌*◌, Bool, true, false, List, [], ◌∷◌, ◌++◌, map, refl, sym, ◌∙◌, ap, arith, ◌<◌, length}
 use Rattle.std.specs.Prelude.{slice_index_or, if◌then◌else◌}
 use Rattle.std.proofs.Math.IntN.{ℤ, pos, ◌+ℤ◌, ◌*ℤ◌, neg_ℤ, *ℤ_comm, *ℤ-zero}
 use Rattle.std.proofs.lemmas.Int.{ints}
@@ -9,7 +9,7 @@ use Rattle.realisations.specs.Indices.{AreIndices}
 use Rattle.basis_names.specs.declared.bases.BasisId.{BasisId}
 use Rattle.realisations.specs.Bases.{kind_of}
 use Rattle.realisations.specs.Occurrence.{occurs}
-use Rattle.realisations.specs.Readings.{leaf, applied, coproduct, element, of_key, numerator, occurrence, on_ordinal_sum, reads_at, counit, cuts}
+use Rattle.realisations.specs.Readings.{leaf, applied, coproduct, mult, product, element, of_key, numerator, occurrence, on_ordinal_sum, reads_at, counit, cuts}
 use Rattle.coproduct_laws.specs.Coproducts.{terms_of_pairs}
 use Rattle.coproduct_rules.specs.Components.{doubled_at, with_pair_at, ComponentLaw, without_at, ComponentCounitLaw, ComponentMultLaw, LaterComponentLaw}
 use Rattle.coproduct_rules.proofs.Counits.{occurs-nil, mult_of_key}
@@ -145,7 +145,8 @@ counit_component n bases key h indices ps =
     by_test false = omega (arith, ints)
 
 -- the product of the first two components
-pub mult_first : ComponentMultLaw
+mult_first : (basis : BasisId) (bases : List BasisId) (a b : List ℕ) (key : List (List ℕ)) (p : List ℕ) (ps : List (List ℕ))
+    → numerator (applied mult 0 (of_key (basis ∷ basis ∷ bases) (a ∷ b ∷ key))) (p ∷ ps) ≡ numerator (product (element basis a) (element basis b)) (p ∷ []) *ℤ numerator (of_key bases key) ps
 mult_first basis bases a b key p ps =
     each (cuts (kind_of basis) p) ∙ ap (λ z. z *ℤ numerator (of_key bases key) ps) (by_ones _ _ (mult_of_key basis a b p))
   where
@@ -166,3 +167,24 @@ mult_first basis bases a b key p ps =
         (λ i. two (occurs basis a c.0) (occurs basis b c.1) (occurrence bases key ps) i +ℤ each cs i)
         ∙ sym (+ℤ-*ℤ (numerator (of_key (basis ∷ basis ∷ []) (a ∷ b ∷ [])) (c.0 ∷ c.1 ∷ []))
         (int_sum (map (λ (r : ℕ × List (List ℕ)). with_sign r.0 (numerator (of_key (basis ∷ basis ∷ []) (a ∷ b ∷ [])) r.1)) (map (λ c. (0, c.0 ∷ c.1 ∷ [])) cs))) (numerator (of_key bases key) ps))
+
+-- and of any two neighbouring ones
+pub mult_at : ComponentMultLaw
+mult_at [] after basis [] back a b [] rs p ef ep =
+    mult_first basis after a b back p rs
+    ∙ ap (λ z. z *ℤ numerator (of_key after back) rs) (one_times (numerator (product (element basis a) (element basis b)) (p ∷ [])))
+  where
+    one_times : (z : ℤ) → z ≡ ((pos 1 *ℤ pos 1) +ℤ pos 0) *ℤ z
+    one_times z = omega (arith, ints)
+mult_at [] after basis (c ∷ front) back a b ps rs p ef ep = absurd (omega (arith, ef))
+mult_at [] after basis [] back a b (q ∷ ps) rs p ef ep = absurd (omega (arith, ep))
+mult_at (first ∷ before) after basis [] back a b ps rs p ef ep = absurd (omega (arith, ef))
+mult_at (first ∷ before) after basis (c ∷ front) back a b [] rs p ef ep = absurd (omega (arith, ep))
+mult_at (first ∷ before) after basis (c ∷ front) back a b (q ∷ ps) rs p ef ep =
+    let product_here = numerator (product (element basis a) (element basis b)) (p ∷ []) in
+    let others = numerator (of_key after back) rs in
+    operation_after mult (length before) first (before ++ basis ∷ basis ∷ after) c (front ++ a ∷ b ∷ back) q (ps ++ p ∷ rs)
+    ∙ ap (λ z. pos (one_if (occurs first c q)) *ℤ z) (mult_at before after basis front back a b ps rs p (omega (arith, ef)) (omega (arith, ep)))
+    ∙ *ℤ_assoc (pos (one_if (occurs first c q))) (numerator (of_key before front) ps *ℤ product_here) others
+    ∙ ap (λ z. z *ℤ others) (*ℤ_assoc (pos (one_if (occurs first c q))) (numerator (of_key before front) ps) product_here
+    ∙ ap (λ z. z *ℤ product_here) (sym (numerator-after first before c front q ps)))

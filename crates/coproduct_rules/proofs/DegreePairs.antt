@@ -1,5 +1,5 @@
 -- The cuts of a composition by degree are pairs of compositions, one for each degree.
-use Rattle.std.proofs.Common.{suc, ◌*◌, ◌^◌, ◌≤◌, length, arith}
+use Rattle.std.proofs.Common.{◌≡◌, suc, ◌*◌, ◌^◌, ◌≤◌, length, arith}
 use Rattle.std.specs.List.{range_with_len, sum}
 use Rattle.std.proofs.Math.Pow.{pow_mono}
 use Rattle.std.proofs.lemmas.List.FromFn.{length-map-range_with_len}
@@ -22,11 +22,15 @@ fundamental_pairs parts composition =
     (range_with_len 0 (suc (sum parts)))
     (Letters-range (λ k. k ≤ sum parts) 0 (suc (sum parts)) (λ k from to. omega arith))
 
--- there is one more than the degree, and so at most 2^(5n)
+-- there is one more than the degree
+pub length-degree_cuts : (parts : Code) → length (degree_cuts parts) ≡ suc (sum parts)
+length-degree_cuts parts = length-map-range_with_len {X = Code × Code} (λ k. (front_of_degree k parts, rest_past_degree k parts)) 0 (suc (sum parts))
+
+-- and so at most 2^(5n)
 few_degrees : (parts : Code) → length (degree_cuts parts) ≤ 2 ^ (5 * sum parts)
 few_degrees parts =
     let room : 2 ^ sum parts ≤ 2 ^ (5 * sum parts) = pow_mono (omega arith) in
-    omega (arith, length-map-range_with_len {X = Code × Code} (λ k. (front_of_degree k parts, rest_past_degree k parts)) 0 (suc (sum parts)), suc-le-pow_two (sum parts))
+    omega (arith, length-degree_cuts parts, suc-le-pow_two (sum parts))
 
 -- the rule of QSym.F
 pub fundamental_rule : FundamentalCoproductLaw

@@ -9,6 +9,7 @@ pub mod DegreeCuts
 pub mod DegreePairs
 pub mod DescentShuffles
 pub mod DoubleSums
+pub mod FewPairs
 pub mod FundamentalRule
 pub mod InverseCuts
 pub mod InversePlaces
@@ -25,6 +26,7 @@ pub mod RibbonPairs
 pub mod RibbonRule
 pub mod Rises
 pub mod ShuffleCuts
+pub mod ShuffleNumbers
 pub mod ShufflesAtLetter
 pub mod Splits
 pub mod Tests

@@ -76,15 +76,18 @@ length-exponent_cuts (n ∷ parts) =
     let whole : 2 ^ sum (n ∷ parts) ≡ 2 ^ n * 2 ^ sum parts = ap (λ m. 2 ^ m) (sum-first n parts) ∙ pow-add 2 n (sum parts) in
     omega (arith, product, both, whole)
 
-few_parts : (parts : List ℕ) → length (part_cuts parts) ≤ 2 ^ (5 * sum parts)
+pub few_parts : (parts : List ℕ) → length (part_cuts parts) ≤ 2 ^ sum parts
 few_parts parts =
-    let more : 2 ^ sum parts ≤ 2 ^ (5 * sum parts) = pow_mono (omega arith) in
-    omega (arith, more, length-map {B = List ℕ × List ℕ} (exponent_cuts parts) (λ (c : List ℕ × List ℕ). (without_zeros c.0, without_zeros c.1)), length-exponent_cuts parts)
+    omega (arith, length-map {B = List ℕ × List ℕ} (exponent_cuts parts) (λ (c : List ℕ × List ℕ). (without_zeros c.0, without_zeros c.1)), length-exponent_cuts parts)
+
+-- which is at most the bound of an answer
+few_enough : (parts : List ℕ) → length (part_cuts parts) ≤ 2 ^ (5 * sum parts)
+few_enough parts = let room : 2 ^ sum parts ≤ 2 ^ (5 * sum parts) = pow_mono (omega arith) in omega (arith, few_parts parts)
 
 -- the rule of NCSF.S
 pub complete_rule : CompleteCoproductLaw
-complete_rule parts h = record { reads = complete_coproduct parts h; indices = part_pairs parts; few = few_parts parts }
+complete_rule parts h = record { reads = complete_coproduct parts h; indices = part_pairs parts; few = few_enough parts }
 
 -- the rule of NCSF.L
 pub elementary_rule : ElementaryCoproductLaw
-elementary_rule parts h = record { reads = elementary_coproduct parts h; indices = part_pairs parts; few = few_parts parts }
+elementary_rule parts h = record { reads = elementary_coproduct parts h; indices = part_pairs parts; few = few_enough parts }

@@ -1,27 +1,27 @@
--- The pairs of ribbons that shuffles give are pairs of compositions, at most 2^(3n) of them.
-use Rattle.std.proofs.Common.{◌≡◌, ℕ, zero, suc, ◌+◌, ◌-◌, ◌*◌, ◌^◌, ◌≤◌, if◌then◌else◌, Bool, true, false, List, [], ◌∷◌, map, length, refl, sym, ◌∙◌, ap, subst, arith}
+-- The pairs of ribbons that shuffles give are pairs of compositions, at most 2^(2n) of them.
+use Rattle.std.proofs.Common.{◌≡◌, ℕ, zero, suc, ◌+◌, ◌-◌, ◌*◌, ◌^◌, ◌≤◌, if◌then◌else◌, Bool, true, false, List, [], ◌∷◌, length, refl, sym, ◌∙◌, ap, subst, arith}
 use Rattle.std.specs.List.{AllByRecursion, flat_map, range_with_len, sum}
-use Rattle.std.proofs.Math.Nat.{mul-le-mul}
+use Rattle.std.proofs.Math.Nat.{mul-le-mul, mul_assoc}
 use Rattle.std.proofs.Math.Pow.{pow_mono}
-use Rattle.std.proofs.lemmas.Nat.{pow-add, pow_pos}
-use Rattle.std.proofs.lemmas.List.{length-append, length-map}
-use Rattle.std.proofs.lemmas.List.FromFn.{length-range_with_len}
+use Rattle.std.proofs.lemmas.Nat.{pow-add}
+use Rattle.std.proofs.lemmas.List.{length-map}
 use Rattle.basis_names.specs.declared.bases.BasisId.TheVariants.{NcsfR}
 use Rattle.realisations.specs.Descents.{descent_composition, word_of_composition}
 use Rattle.realisations.specs.IndexKinds.{IsComposition}
 use Rattle.realisations.specs.Lists.{same_list}
 use Rattle.realisations.specs.Pairings.{longer_compositions, compositions}
-use Rattle.realisations.specs.Words.{greatest, raise, shuffles, shifted_shuffles}
+use Rattle.realisations.specs.Words.{greatest, raise, shifted_shuffles}
 use Rattle.realisations.proofs.DescentCompositions.{descends}
+use Rattle.realisations.proofs.Sums.{sums, sums-scale}
 use Rattle.basis_representatives.proofs.Letters.{Letters-range}
 use Rattle.basis_representatives.proofs.BlockWords.{descent_composition-word_of_composition}
 use Rattle.coproduct_laws.specs.Coproducts.{ArePairs}
-use Rattle.coproduct_laws.proofs.ValuePairs.{suc-le-pow_two}
 use Rattle.coproduct_rules.specs.Laws.{RibbonCoproductLaw}
 use Rattle.coproduct_rules.specs.RibbonCuts.{ribbon_pair, ribbon_cuts}
 use Rattle.coproduct_rules.proofs.DegreeCuts.{sum-first}
 use Rattle.coproduct_rules.proofs.PartPairs.{pow_two-suc, each_flat_map, any, length-flat_map-le}
 use Rattle.coproduct_rules.proofs.RibbonRule.{ribbon_coproduct}
+use Rattle.coproduct_rules.proofs.ShuffleNumbers.{ways, length-shuffles, over_ways, over_range, length-flat_map, sums_range_le}
 
 -- the compositions of n are compositions with the sum n
 all_sums : (n : ℕ) → AllByRecursion (λ parts. IsComposition parts × (sum parts ≡ n)) (compositions n)
@@ -50,25 +50,6 @@ ribbon_pairs parts =
     by_test true j k hj hk h = ((hj, hk, h), tt)
     by_test false j k hj hk h = tt
 
--- at most 2^n shuffles of n letters
-length-shuffles : (u v : List ℕ) → length (shuffles u v) ≤ 2 ^ (length u + length v)
-length-shuffles [] v = omega (arith, pow_pos (0 + length v))
-length-shuffles (x ∷ u) [] = omega (arith, pow_pos (suc (length u) + 0))
-length-shuffles (x ∷ u) (y ∷ v) =
-    let first : 2 ^ (length u + length (y ∷ v)) ≡ 2 ^ (suc (length u) + length v) = ap (λ n. 2 ^ n) (omega arith) in
-    let whole : 2 ^ (length (x ∷ u) + length (y ∷ v)) ≡ 2 ^ suc (suc (length u) + length v) = ap (λ n. 2 ^ n) (omega arith) in
-    omega (
-      arith,
-      first,
-      whole,
-      pow_two-suc (suc (length u) + length v),
-      length-append (map (λ w. x ∷ w) (shuffles u (y ∷ v))) (map (λ w. y ∷ w) (shuffles (x ∷ u) v)),
-      length-map (shuffles u (y ∷ v)) (λ w. x ∷ w),
-      length-map (shuffles (x ∷ u) v) (λ w. y ∷ w),
-      length-shuffles u (y ∷ v),
-      length-shuffles (x ∷ u) v,
-    )
-
 -- at most 2^n compositions of n
 length-compositions : (n : ℕ) → length (compositions n) ≤ 2 ^ n
 length-compositions zero = omega arith
@@ -84,47 +65,55 @@ length-word : (parts : List ℕ) → IsComposition parts → length (word_of_com
 length-word parts h = sym ((descends (word_of_composition parts)).0) ∙ ap sum (descent_composition-word_of_composition parts h)
 
 -- the pairs listed for two compositions
-few_of_pair : (parts j k : List ℕ) → IsComposition j → IsComposition k → length (ribbon_pair parts j k) ≤ 2 ^ (sum j + sum k)
+few_of_pair : (parts j k : List ℕ) → IsComposition j → IsComposition k → length (ribbon_pair parts j k) ≤ ways (sum j) (sum k)
 few_of_pair parts j k hj hk =
     let all : length (ribbon_pair parts j k) ≤ length (shifted_shuffles (word_of_composition j) (word_of_composition k)) * 1 =
     length-flat_map-le (λ (x : List ℕ). Unit {0}) (λ x. if same_list (descent_composition x) parts then (j, k) ∷ [] else []) 1 (λ x h. one (same_list (descent_composition x) parts))
     (shifted_shuffles (word_of_composition j) (word_of_composition k)) (any (shifted_shuffles (word_of_composition j) (word_of_composition k))) in
-    let size : length (word_of_composition j) + length (raise (greatest (word_of_composition j)) (word_of_composition k)) ≡ sum j + sum k =
-    omega (arith, length-word j hj, length-word k hk, length-map (word_of_composition k) (λ x. greatest (word_of_composition j) + x)) in
-    omega (arith, all, length-shuffles (word_of_composition j) (raise (greatest (word_of_composition j)) (word_of_composition k)), ap (λ n. 2 ^ n) size)
+    let raised : length (raise (greatest (word_of_composition j)) (word_of_composition k)) ≡ sum k =
+    length-map (word_of_composition k) (λ x. greatest (word_of_composition j) + x) ∙ length-word k hk in
+    let sizes : ways (length (word_of_composition j)) (length (raise (greatest (word_of_composition j)) (word_of_composition k))) ≡ ways (sum j) (sum k) =
+    λ i. ways (length-word j hj i) (raised i) in
+    omega (arith, all, length-shuffles (word_of_composition j) (raise (greatest (word_of_composition j)) (word_of_composition k)), sizes)
   where
     one : (b : Bool) → length {A = List ℕ × List ℕ} (if b then (j, k) ∷ [] else []) ≤ 1
     one true = omega arith
     one false = omega arith
 
-few_ribbons : (parts : List ℕ) → length (ribbon_cuts parts) ≤ 2 ^ (5 * sum parts)
+-- those of one degree of the first composition
+of_degree : (parts : List ℕ) (d : ℕ) → d ≤ sum parts
+    → length (flat_map (λ j. flat_map (λ k. ribbon_pair parts j k) (compositions (sum parts - d))) (compositions d)) ≤ 2 ^ sum parts * ways d (sum parts - d)
+of_degree parts d le =
+    let rest = sum parts - d in
+    let pairs = ways d (sum parts - d) in
+    let inner : (j : List ℕ) → IsComposition j × (sum j ≡ d) → length (flat_map (λ k. ribbon_pair parts j k) (compositions rest)) ≤ 2 ^ rest * pairs =
+    λ j hj.
+    (let each : length (flat_map (λ k. ribbon_pair parts j k) (compositions rest)) ≤ length (compositions rest) * pairs =
+    length-flat_map-le (λ k. IsComposition k × (sum k ≡ rest)) (λ k. ribbon_pair parts j k) pairs
+    (λ k hk. subst (λ m. length (ribbon_pair parts j k) ≤ m) (λ i. ways (hj.1 i) (hk.1 i)) (few_of_pair parts j k hj.0 hk.0)) (compositions rest) (all_sums rest) in
+    let most : length (compositions rest) * pairs ≤ 2 ^ rest * pairs = mul-le-mul (length-compositions rest) (omega arith) in
+    omega (arith, each, most)) in
+    let outer : length (flat_map (λ j. flat_map (λ k. ribbon_pair parts j k) (compositions rest)) (compositions d)) ≤ length (compositions d) * (2 ^ rest * pairs) =
+    length-flat_map-le (λ j. IsComposition j × (sum j ≡ d)) (λ j. flat_map (λ k. ribbon_pair parts j k) (compositions rest)) (2 ^ rest * pairs) inner (compositions d) (all_sums d) in
+    let most : length (compositions d) * (2 ^ rest * pairs) ≤ 2 ^ d * (2 ^ rest * pairs) = mul-le-mul (length-compositions d) (omega arith) in
+    let whole : 2 ^ sum parts * pairs ≡ 2 ^ d * (2 ^ rest * pairs) =
+    ap (λ m. m * pairs) (ap (λ m. 2 ^ m) (omega arith) ∙ pow-add 2 d rest) ∙ mul_assoc (2 ^ d) (2 ^ rest) pairs in
+    omega (arith, outer, most, whole)
+
+-- at most 2^n for each choice of the places of the first word, of which there are 2^n
+pub few_ribbons : (parts : List ℕ) → length (ribbon_cuts parts) ≤ 2 ^ (2 * sum parts)
 few_ribbons parts =
-    let n : ℕ = sum parts in
-    let all : length (ribbon_cuts parts) ≤ length (range_with_len 0 (suc (sum parts))) * 2 ^ (sum parts + sum parts) =
-    length-flat_map-le (λ d. d ≤ sum parts) (λ d. flat_map (λ j. flat_map (λ k. ribbon_pair parts j k) (compositions (sum parts - d))) (compositions d)) (2 ^ (sum parts + sum parts)) (λ d le. of_degree d le)
-    (range_with_len 0 (suc (sum parts))) (Letters-range (λ d. d ≤ sum parts) 0 (suc (sum parts)) (λ k a b. omega arith)) in
-    let count : length (range_with_len 0 (suc (sum parts))) ≤ 2 ^ sum parts = omega (arith, length-range_with_len 0 (suc (sum parts)), suc-le-pow_two (sum parts)) in
-    let both : length (range_with_len 0 (suc (sum parts))) * 2 ^ (sum parts + sum parts) ≤ 2 ^ sum parts * 2 ^ (sum parts + sum parts) = mul-le-mul count (omega arith) in
-    let whole : 2 ^ (sum parts + (sum parts + sum parts)) ≡ 2 ^ sum parts * 2 ^ (sum parts + sum parts) = pow-add 2 (sum parts) (sum parts + sum parts) in
-    let more : 2 ^ (sum parts + (sum parts + sum parts)) ≤ 2 ^ (5 * sum parts) = pow_mono (omega arith) in
-    omega (arith, all, both, whole, more)
-  where
-    of_degree : (d : ℕ) → d ≤ sum parts → length (flat_map (λ j. flat_map (λ k. ribbon_pair parts j k) (compositions (sum parts - d))) (compositions d)) ≤ 2 ^ (sum parts + sum parts)
-    of_degree d le =
-        let inner : (j : List ℕ) → IsComposition j × (sum j ≡ d) → length (flat_map (λ k. ribbon_pair parts j k) (compositions (sum parts - d))) ≤ 2 ^ (sum parts - d) * 2 ^ sum parts =
-        λ j hj.
-        (let each : length (flat_map (λ k. ribbon_pair parts j k) (compositions (sum parts - d))) ≤ length (compositions (sum parts - d)) * 2 ^ sum parts =
-        length-flat_map-le (λ k. IsComposition k × (sum k ≡ sum parts - d)) (λ k. ribbon_pair parts j k) (2 ^ sum parts)
-        (λ k hk. subst (λ m. length (ribbon_pair parts j k) ≤ 2 ^ m) (omega (arith, hj.1, hk.1)) (few_of_pair parts j k hj.0 hk.0)) (compositions (sum parts - d)) (all_sums (sum parts - d)) in
-        let most : length (compositions (sum parts - d)) * 2 ^ sum parts ≤ 2 ^ (sum parts - d) * 2 ^ sum parts = mul-le-mul (length-compositions (sum parts - d)) (omega arith) in
-        omega (arith, each, most)) in
-        let outer : length (flat_map (λ j. flat_map (λ k. ribbon_pair parts j k) (compositions (sum parts - d))) (compositions d)) ≤ length (compositions d) * (2 ^ (sum parts - d) * 2 ^ sum parts) =
-        length-flat_map-le (λ j. IsComposition j × (sum j ≡ d)) (λ j. flat_map (λ k. ribbon_pair parts j k) (compositions (sum parts - d))) (2 ^ (sum parts - d) * 2 ^ sum parts) inner (compositions d) (all_sums d) in
-        let most : length (compositions d) * (2 ^ (sum parts - d) * 2 ^ sum parts) ≤ 2 ^ d * (2 ^ (sum parts - d) * 2 ^ sum parts) = mul-le-mul (length-compositions d) (omega arith) in
-        let joined : 2 ^ (sum parts + sum parts) ≡ 2 ^ d * (2 ^ (sum parts - d) * 2 ^ sum parts) =
-        ap (λ m. 2 ^ m) (omega arith) ∙ pow-add 2 d (sum parts - d + sum parts) ∙ ap (λ m. 2 ^ d * m) (pow-add 2 (sum parts - d) (sum parts)) in
-        omega (arith, outer, most, joined)
+    let n = sum parts in
+    let all : length (ribbon_cuts parts) ≤ sums (λ d. 2 ^ n * ways d (n - d)) (range_with_len 0 (suc n)) =
+    subst (λ m. m ≤ sums (λ d. 2 ^ n * ways d (n - d)) (range_with_len 0 (suc n)))
+    (sym (length-flat_map (λ d. flat_map (λ j. flat_map (λ k. ribbon_pair parts j k) (compositions (n - d))) (compositions d)) (range_with_len 0 (suc n))))
+    (sums_range_le (λ d. length (flat_map (λ j. flat_map (λ k. ribbon_pair parts j k) (compositions (n - d))) (compositions d))) (λ d. 2 ^ n * ways d (n - d)) 0 (suc n)
+    (λ d from to. of_degree parts d (omega arith))) in
+    let both : sums (λ d. 2 ^ n * ways d (n - d)) (range_with_len 0 (suc n)) ≡ 2 ^ n * 2 ^ n =
+    sums-scale (2 ^ n) (λ d. ways d (n - d)) (range_with_len 0 (suc n)) ∙ ap (λ m. 2 ^ n * m) (over_range n ways ∙ over_ways n) in
+    let whole : 2 ^ (2 * n) ≡ 2 ^ n * 2 ^ n = ap (λ m. 2 ^ m) (omega arith) ∙ pow-add 2 n n in
+    omega (arith, all, both, whole)
 
 -- the rule of NCSF.R
 pub ribbon_rule : RibbonCoproductLaw
-ribbon_rule parts h = record { reads = ribbon_coproduct parts; indices = ribbon_pairs parts; few = few_ribbons parts }
+ribbon_rule parts h = record { reads = ribbon_coproduct parts; indices = ribbon_pairs parts; few = let room : 2 ^ (2 * sum parts) ≤ 2 ^ (5 * sum parts) = pow_mono (omega arith) in omega (arith, few_ribbons parts) }

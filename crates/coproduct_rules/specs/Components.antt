@@ -1,5 +1,5 @@
 -- Coproduct rules on a component of a key, counted from 0.
-use Rattle.std.specs.Prelude.{◌≡◌, ℕ, zero, suc, ◌<◌, pos, ◌*ℤ◌, if◌then◌else◌, List, [], ◌∷◌, map, length, slice_index_or}
+use Rattle.std.specs.Prelude.{◌≡◌, ℕ, zero, suc, ◌<◌, pos, ◌*ℤ◌, if◌then◌else◌, List, [], ◌∷◌, ◌++◌, map, length, slice_index_or}
 use Rattle.realisations.specs.Codes.{Code, Key}
 use Rattle.realisations.specs.Lists.{one_if, same_list}
 use Rattle.realisations.specs.Indices.{AreIndices}
@@ -49,10 +49,11 @@ abbrev pub ComponentCounitLaw : Type 0
 ComponentCounitLaw = (n : ℕ) (bases : List BasisId) (key : Key) → n < length bases → AreIndices bases key →
     (ps : Points) → AgreeAt (leaf (without_at n bases) 1 (counit_terms_at n key)) (applied counit n (of_key bases key)) ps
 
--- the product of two neighbouring components of a key reads as the product of their elements, while the other components stand still
+-- the product of two neighbouring components of a key reads as the product of their elements, times what the components before and after read as
 abbrev pub ComponentMultLaw : Type 0
-ComponentMultLaw = (basis : BasisId) (bases : List BasisId) (a b : Code) (key : Key) (p : Point) (ps : Points) →
-    numerator (applied mult 0 (of_key (basis ∷ basis ∷ bases) (a ∷ b ∷ key))) (p ∷ ps) ≡ numerator (product (element basis a) (element basis b)) (p ∷ []) *ℤ numerator (of_key bases key) ps
+ComponentMultLaw = (before after : List BasisId) (basis : BasisId) (front back : Key) (a b : Code) (ps rs : Points) (p : Point) → length front ≡ length before → length ps ≡ length before →
+    numerator (applied mult (length before) (of_key (before ++ basis ∷ basis ∷ after) (front ++ a ∷ b ∷ back))) (ps ++ p ∷ rs)
+    ≡ (numerator (of_key before front) ps *ℤ numerator (product (element basis a) (element basis b)) (p ∷ [])) *ℤ numerator (of_key after back) rs
 
 -- an operation on a later component multiplies by the occurrence of the first
 abbrev pub LaterComponentLaw : Type 0

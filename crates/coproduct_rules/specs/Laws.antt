@@ -1,14 +1,17 @@
 -- Laws of coproducts and counits. Public functions with empty bodies ensure them (`src/laws.rt`).
-use Rattle.std.specs.Prelude.{◌≡◌, List, [], ◌∷◌, map}
+use Rattle.std.specs.Prelude.{◌≡◌, suc, ◌*◌, ◌^◌, ◌≤◌, List, [], ◌∷◌, map, length}
+use Rattle.std.specs.List.{sum}
 use Rattle.basis_names.specs.declared.bases.BasisId.{BasisId}
 use Rattle.basis_names.specs.declared.bases.BasisId.TheVariants.{FqsymF, QsymF, NcsfS, NcsfL, NcsfR, PbtP}
 use Rattle.realisations.specs.Bases.{kind_of}
 use Rattle.realisations.specs.Codes.{Code}
+use Rattle.realisations.specs.IndexKinds.{IsComposition}
 use Rattle.realisations.specs.Indices.{IsIndex}
 use Rattle.realisations.specs.Lists.{int_sum}
 use Rattle.realisations.specs.Points.{Kind, word, Point, IsPoint}
 use Rattle.realisations.specs.Readings.{Reading, applied, coproduct, mult, product, tensor, element, of_key, kinds_of, numerator, AgreeAt}
 use Rattle.realisations.specs.Trees.{Tree, tree_code}
+use Rattle.realisations.specs.Words.{word_cuts}
 use Rattle.coproduct_laws.specs.Coproducts.{IsCoproductRule}
 use Rattle.coproduct_rules.specs.Counits.{counit_terms, IsCounit}
 use Rattle.coproduct_rules.specs.DegreeCuts.{degree_cuts}
@@ -46,6 +49,13 @@ UpperPartsLaw = (tree : Tree) (u v : Point) → IsPoint word v →
 -- and by indices: the same, with any codes that read as the products
 abbrev pub TreeCoproductLaw : Type 0
 TreeCoproductLaw = (products : List Tree → List Code) → AreProducts products → (tree : Tree) → IsCoproductRule PbtP (tree_code tree) (upper_cuts products tree)
+
+-- of a composition of n the rule of QSym.M lists at most n + 1 pairs, that of QSym.F n + 1, that of NCSF.S and NCSF.L at most 2^n, and that of NCSF.R at most 2^(2n)
+pub record FewPairsLaw : Type 0 where
+  pub monomial : (parts : Code) → IsComposition parts → length (word_cuts parts) ≤ suc (sum parts)
+  pub fundamental : (parts : Code) → length (degree_cuts parts) ≡ suc (sum parts)
+  pub multiplicative : (parts : Code) → length (part_cuts parts) ≤ 2 ^ sum parts
+  pub ribbon : (parts : Code) → length (ribbon_cuts parts) ≤ 2 ^ (2 * sum parts)
 
 -- the counit of each basis is 1 at the empty index, and 0 at every other
 abbrev pub CounitLaw : Type 0

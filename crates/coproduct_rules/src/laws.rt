@@ -1,6 +1,6 @@
 //! Laws of coproducts and counits. A function here computes nothing: callers cite its clause.
 ghost use Rattle.coproduct_rules.specs.Components.{ComponentLaw, ComponentCounitLaw, ComponentMultLaw, LaterComponentLaw};
-ghost use Rattle.coproduct_rules.specs.Laws.{FundamentalCoproductLaw, CompleteCoproductLaw, ElementaryCoproductLaw, RibbonCoproductLaw, PlaceCoproductLaw, UpperPartsLaw, TreeCoproductLaw, CounitLaw, MultLaw, CompatibilityLaw};
+ghost use Rattle.coproduct_rules.specs.Laws.{FundamentalCoproductLaw, CompleteCoproductLaw, ElementaryCoproductLaw, RibbonCoproductLaw, PlaceCoproductLaw, UpperPartsLaw, TreeCoproductLaw, CounitLaw, FewPairsLaw, MultLaw, CompatibilityLaw};
 
 /// The coproduct of an element of `QSym.F` (Gessel 1984): for each k from 0 to its degree, the one pair
 /// of a composition J of k and one K of the rest such that its composition is J followed by K, or these
@@ -62,6 +62,14 @@ pub fn tree_coproduct_law()
     ensures { TreeCoproductLaw }
 {}
 
+/// The coproducts of the bases of QSym and NCSF have few pairs: of a composition of n at most n + 1 in
+/// QSym, at most 2^n for the complete and the elementary functions, and at most 2^(2n) for the ribbons.
+///
+/// Nothing is computed: callers cite the clause.
+pub fn few_pairs_law()
+    ensures { FewPairsLaw }
+{}
+
 /// The counit of a basis element is 1 at the empty index and 0 at every other, in every basis.
 ///
 /// Nothing is computed: callers cite the clause.
@@ -100,7 +108,7 @@ pub fn component_counit_law()
     ensures { ComponentCounitLaw }
 {}
 
-/// The product of the first two components of a key reads as the product of their elements, times what
+/// The product of two neighbouring components of a key reads as the product of their elements, times what
 /// the other components read as.
 ///
 /// Nothing is computed: callers cite the clause.

@@ -1,5 +1,5 @@
-use Rattle.coproduct_rules.proofs.Components.{mult_first}
+use Rattle.coproduct_rules.proofs.Components.{mult_at}
 use Rattle.coproduct_rules.proofs.laws.component_mult_law.Goals as goal
 
 pub returns : goal.returns
-returns c = mult_first
+returns c = mult_at
