@@ -3,6 +3,7 @@ pub mod BitTests
 pub mod ChangeAnswers
 pub mod Changes
 pub mod CompositionsByBits
+pub mod CoproductsExist
 pub mod IntSums
 pub mod LiftedKeys
 pub mod Lifts

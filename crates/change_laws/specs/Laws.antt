@@ -1,10 +1,16 @@
--- Laws of changes of basis. Public functions with empty bodies ensure them (`src/laws.rt`).
-use Rattle.std.specs.Prelude.{◌-◌, ◌^◌, ◌≤◌, List, length}
+-- Laws of changes of basis, and that coproducts exist. Public functions with empty bodies ensure them (`src/laws.rt`).
+use Rattle.std.specs.Prelude.{◌-◌, ◌^◌, ◌<◌, ◌≤◌, List, [], ◌∷◌, length}
 use Rattle.std.specs.List.{sum}
+use Rattle.basis_names.specs.declared.bases.BasisId.{BasisId}
 use Rattle.basis_names.specs.declared.bases.BasisId.TheVariants.{QsymM, QsymF, NcsfS, NcsfL, NcsfR}
+use Rattle.coproduct_laws.specs.Coproducts.{IsCoproductRule}
+use Rattle.realisations.specs.Answers.{IsAnswer}
 use Rattle.realisations.specs.Codes.{Code}
+use Rattle.realisations.specs.Combinations.{Combination, norm_of}
 use Rattle.realisations.specs.Descents.{complement}
 use Rattle.realisations.specs.IndexKinds.{IsComposition}
+use Rattle.realisations.specs.Indices.{degree_of}
+use Rattle.realisations.specs.Readings.{applied, coproduct, element}
 use Rattle.change_laws.specs.Changes.{ListsRefinements, ListsCoarsenings, IsSignedSum, HasChanges}
 
 -- a composition of n has at most 2^n finer ones, and at most 2^n coarser ones
@@ -37,3 +43,8 @@ pub record NcsfExistenceLaw : Type 0 where
   pub ribbon_in_complete : HasChanges NcsfR NcsfS
   pub elementary_in_ribbon : HasChanges NcsfL NcsfR
   pub ribbon_in_elementary : HasChanges NcsfR NcsfL
+
+-- each coproduct rule with fewer than 2^127 pairs has a combination that is its answer, of a norm of at most their number
+abbrev pub CoproductExistenceLaw : Type 0
+CoproductExistenceLaw = (basis : BasisId) (code : Code) (pairs : List (Code × Code)) → IsCoproductRule basis code pairs → length pairs < 2 ^ 127 →
+    (c : Combination) × IsAnswer (basis ∷ basis ∷ []) (degree_of basis code) (applied coproduct 0 (element basis code)) c × (norm_of c.terms ≤ length pairs)

@@ -1,5 +1,5 @@
 //! Laws of changes of basis, and of rules put into one component. A function here computes nothing: callers cite its clause.
-ghost use Rattle.change_laws.specs.Laws.{FewLaw, QsymChangesLaw, QsymExistenceLaw, NcsfChangesLaw, NcsfExistenceLaw};
+ghost use Rattle.change_laws.specs.Laws.{FewLaw, QsymChangesLaw, QsymExistenceLaw, NcsfChangesLaw, NcsfExistenceLaw, CoproductExistenceLaw};
 ghost use Rattle.change_laws.specs.Lifts.{ComponentReadingsLaw, ReplacedLaw, ChangeLiftLaw, OperationLiftLaw};
 
 /// A composition of n has at most 2^n finer ones, and at most 2^n coarser ones.
@@ -71,4 +71,12 @@ pub fn change_lift_law()
 /// Nothing is computed: callers cite the clause.
 pub fn operation_lift_law()
     ensures { OperationLiftLaw }
+{}
+
+/// Each coproduct rule has a combination that is its answer, whatever memory there is, of a norm of at most
+/// the number of its pairs.
+///
+/// Nothing is computed: callers cite the clause.
+pub fn coproduct_existence_law()
+    ensures { CoproductExistenceLaw }
 {}

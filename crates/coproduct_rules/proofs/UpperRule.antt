@@ -85,9 +85,9 @@ numerator-codes u [] = refl
 numerator-codes u (code ∷ codes) = omega (arith, ints, numerator-codes u codes)
 
 -- codes that read as a product occur as often as it does
-products_count : (products : List Tree → List (List ℕ)) → AreProducts products → (trees : List Tree) (u : List ℕ) → at_codes u (products trees) ≡ forest_count trees u
-products_count products are trees u =
-    by_readings (are.reads trees u) (numerator-codes u (products trees)) (numerator-trees trees u) (denominator-trees trees)
+products_count : (products : List Tree → List (List ℕ)) → AreProducts products → (trees : List Tree) (u : List ℕ) → IsPoint word u → at_codes u (products trees) ≡ forest_count trees u
+products_count products are trees u hu =
+    by_readings (are.reads trees u hu) (numerator-codes u (products trees)) (numerator-trees trees u) (denominator-trees trees)
   where
     by_readings : {m n : ℤ} {d a b : ℕ} → m *ℤ pos d ≡ n *ℤ pos 1 → m ≡ pos a → n ≡ pos b → d ≡ 1 → a ≡ b
     by_readings {m} {n} {d} {a} {b} h p q r =
@@ -100,7 +100,7 @@ tree_coproduct products are tree =
     coproduct_by_counts PbtP (tree_code tree) (upper_cuts products tree) (λ u v hu hv.
     upper_points tree u v hv
     ∙ sums_same (λ e. forest_count e.0 u * is_tree (decreasing_tree v) e.1) _
-    (λ e. ap (λ n. n * is_tree (decreasing_tree v) e.1) (sym (products_count products are e.0 u))
+    (λ e. ap (λ n. n * is_tree (decreasing_tree v) e.1) (sym (products_count products are e.0 u hu))
     ∙ sym (sums-map (λ (p : List ℕ × List ℕ). one_if (occurs PbtP p.0 u) * one_if (occurs PbtP p.1 v)) (λ (code : List ℕ). (code, tree_code e.1)) (products e.0)
     ∙ sums-scale_right (is_tree (decreasing_tree v) e.1) (λ (code : List ℕ). one_if (occurs PbtP code u)) (products e.0))) (upper_parts tree)
     ∙ sym (sums-flat_map (λ (p : List ℕ × List ℕ). one_if (occurs PbtP p.0 u) * one_if (occurs PbtP p.1 v)) (λ e. map (λ (code : List ℕ). (code, tree_code e.1)) (products e.0)) (upper_parts tree)))

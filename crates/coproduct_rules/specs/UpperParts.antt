@@ -4,7 +4,7 @@ use Rattle.std.specs.List.{AllByRecursion, flat_map}
 use Rattle.basis_names.specs.declared.bases.BasisId.TheVariants.{PbtP}
 use Rattle.realisations.specs.Codes.{Code}
 use Rattle.realisations.specs.IndexKinds.{IsTreeCode}
-use Rattle.realisations.specs.Points.{Point}
+use Rattle.realisations.specs.Points.{word, Point, IsPoint}
 use Rattle.realisations.specs.Readings.{Reading, leaf, product, element, AgreeAt}
 use Rattle.realisations.specs.Trees.{Tree, empty, node, tree_size, tree_code}
 
@@ -24,9 +24,9 @@ abbrev pub forest_size : List Tree → ℕ
 forest_size [] = 0
 forest_size (tree ∷ trees) = tree_size tree + forest_size trees
 
--- a rule of products: for any trees it lists codes of trees with as many nodes in all, which read as the product of their elements, and at most 16^n of them
+-- a rule of products: for any trees it lists codes of trees with as many nodes in all, which read as the product of their elements at all points, and at most 16^n of them
 pub record AreProducts (products : List Tree → List Code) : Type 0 where
-  pub reads : (trees : List Tree) (u : Point) → AgreeAt (leaf (PbtP ∷ []) 1 (map (λ code. (pos 1, code ∷ [])) (products trees))) (product_of_trees trees) (u ∷ [])
+  pub reads : (trees : List Tree) (u : Point) → IsPoint word u → AgreeAt (leaf (PbtP ∷ []) 1 (map (λ code. (pos 1, code ∷ [])) (products trees))) (product_of_trees trees) (u ∷ [])
   pub indices : (trees : List Tree) → AllByRecursion (λ code. IsTreeCode code × (length code ≡ forest_size trees)) (products trees)
   pub few : (trees : List Tree) → length (products trees) ≤ 2 ^ (4 * forest_size trees)
 
