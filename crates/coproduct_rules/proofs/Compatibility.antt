@@ -17,7 +17,7 @@ use Rattle.realisations.proofs.Sums.{sums, sums-map, sums-flat_map, sums-scale, 
 use Rattle.coproduct_rules.specs.Laws.{CompatibilityLaw}
 use Rattle.coproduct_rules.proofs.DoubleSums.{sums-scale_right}
 use Rattle.coproduct_laws.proofs.LowAndHigh.{AreLow}
-use Rattle.coproduct_rules.proofs.LetterBlocks.{low_from_greatest}
+use Rattle.basis_representatives.proofs.PackedWords.{letters_to_greatest}
 use Rattle.coproduct_laws.proofs.CoproductCounts.{at_points}
 use Rattle.coproduct_rules.proofs.KeyReadings.{numerator-coproduct}
 use Rattle.coproduct_laws.proofs.Shuffling.{over_shuffles}
@@ -120,7 +120,7 @@ module _ (basis : BasisId) (is : kind_of basis ≡ word) where
       ≡ over_word_cuts (λ p q. over_word_cuts (λ c d. at_points basis a (shifted_shuffles p c) * at_points basis b (shifted_shuffles q d)) v) u
   word_sides a b u v positive =
       cuts_of_shuffles (λ p q. one_if (occurs basis a p) * one_if (occurs basis b q)) u (raise (greatest u) v)
-      ∙ over_word_cuts_same (λ x. x ≤ greatest u) _ _ u (low_from_greatest (greatest u) u (omega arith))
+      ∙ over_word_cuts_same (λ x. x ≤ greatest u) _ _ u (letters_to_greatest u (greatest u) (omega arith))
       (λ p q low low'. over_word_cuts-map (λ x. greatest u + x) (λ c d. over_parts (λ x y. one_if (occurs basis a x) * one_if (occurs basis b y)) p q c d) v
       ∙ over_word_cuts_same (λ x. 0 < x) _ _ v positive
       (λ c d hc hd. parts_apart (λ x. one_if (occurs basis a x)) (λ x. one_if (occurs basis b x)) p q (raise (greatest u) c) (raise (greatest u) d)

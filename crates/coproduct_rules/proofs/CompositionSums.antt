@@ -6,11 +6,11 @@ use Rattle.std.proofs.lemmas.Bool.Decides.{nat_tests}
 use Rattle.realisations.specs.Lists.{same_list, one_if}
 use Rattle.realisations.specs.IndexKinds.{IsComposition}
 use Rattle.realisations.specs.Pairings.{longer_compositions, compositions}
+use Rattle.realisations.proofs.Every.{every-flat_map}
 use Rattle.realisations.proofs.Sums.{sums, sums-flat_map, sums_none, sums_same}
 use Rattle.basis_representatives.proofs.SameLists.{same_list-true}
 use Rattle.coproduct_rules.proofs.DoubleSums.{sums-scale_right}
 use Rattle.coproduct_rules.proofs.DegreeCuts.{sum-first}
-use Rattle.coproduct_rules.proofs.PartPairs.{each_flat_map}
 
 -- sums over lists whose elements have a property
 pub sums_on : {X : Type 0} (P : X → Type 0) (f g : X → ℕ) (xs : List X) → AllByRecursion P xs → ((x : X) → P x → f x ≡ g x) → sums f xs ≡ sums g xs
@@ -20,7 +20,7 @@ sums_on P f g (x ∷ xs) h same = omega (arith, same x h.0, sums_on P f g xs h.1
 -- the compositions of n are compositions
 pub all_compositions : (n : ℕ) → AllByRecursion IsComposition (compositions n)
 all_compositions zero = (tt, tt)
-all_compositions (suc n) = each_flat_map IsComposition IsComposition (λ parts. longer_compositions parts) longer (compositions n) (all_compositions n)
+all_compositions (suc n) = every-flat_map IsComposition IsComposition (λ parts. longer_compositions parts) longer (compositions n) (all_compositions n)
   where
     longer : (parts : List ℕ) → IsComposition parts → AllByRecursion IsComposition (longer_compositions parts)
     longer [] h = ((omega arith, tt), tt)

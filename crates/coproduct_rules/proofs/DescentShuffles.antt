@@ -3,7 +3,6 @@ use Rattle.std.proofs.Common.{◌≡◌, ℕ, suc, ◌+◌, ◌<◌, ◌≤◌, 
 use Rattle.std.specs.Prelude.{nat_lt, if◌then◌else◌}
 use Rattle.std.proofs.lemmas.Bool.Decides.{nat_tests}
 use Rattle.realisations.specs.Descents.{longer_first, descent_composition}
-use Rattle.realisations.specs.IndexKinds.{IsComposition}
 use Rattle.coproduct_rules.proofs.Tests.{same_heads}
 use Rattle.coproduct_laws.proofs.LowAndHigh.{AreLow, AreHigh}
 use Rattle.coproduct_laws.proofs.Shuffling.{over_shuffles, over_shuffles-step}
@@ -44,17 +43,6 @@ has_first x (y ∷ w) = by_test (nat_lt y x) (descent_composition (y ∷ w)) (ha
     by_test : (b : Bool) (c : List ℕ) → HasFirst c → HasFirst (one_more b c)
     by_test true c h = record { first = 0; rest = c; is = refl }
     by_test false c h = record { first = suc h.first; rest = h.rest; is = ap longer_first h.is }
-
--- a descent composition is a composition
-pub descent_composition-is : (w : List ℕ) → IsComposition (descent_composition w)
-descent_composition-is [] = tt
-descent_composition-is (x ∷ []) = (omega arith, tt)
-descent_composition-is (x ∷ y ∷ w) = by_test (nat_lt y x) (descent_composition (y ∷ w)) (descent_composition-is (y ∷ w))
-  where
-    by_test : (b : Bool) (c : List ℕ) → IsComposition c → IsComposition (one_more b c)
-    by_test true c h = (omega arith, h)
-    by_test false [] h = (omega arith, tt)
-    by_test false (i ∷ c) h = (omega arith, h.1)
 
 -- the first part tells whether the first letter falls
 same_steps : (b b' : Bool) (c c' : List ℕ) → HasFirst c → HasFirst c' → one_more b c ≡ one_more b' c' → (b ≡ b') × (c ≡ c')

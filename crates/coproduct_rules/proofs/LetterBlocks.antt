@@ -1,13 +1,7 @@
 -- Blocks of equal letters in front of a word.
-use Rattle.std.proofs.Common.{ℕ, zero, suc, ◌<◌, ◌≤◌, List, [], ◌∷◌, ◌++◌, arith}
+use Rattle.std.proofs.Common.{ℕ, zero, suc, ◌<◌, ◌≤◌, List, ◌++◌}
 use Rattle.std.specs.Prelude.{replicate}
-use Rattle.realisations.specs.Words.{greatest}
 use Rattle.coproduct_laws.proofs.LowAndHigh.{AreLow, AreHigh}
-
--- all letters are at most the greatest
-pub low_from_greatest : (k : ℕ) (w : List ℕ) → greatest w ≤ k → AreLow k w
-low_from_greatest k [] h = tt
-low_from_greatest k (x ∷ w) h = (omega arith, low_from_greatest k w (omega arith))
 
 -- a block of equal low letters
 pub low_block : (g n i : ℕ) (w : List ℕ) → i ≤ g → AreLow g w → AreLow g (replicate n i ++ w)

@@ -15,7 +15,7 @@ use Rattle.coproduct_laws.specs.Coproducts.{IsCoproduct}
 use Rattle.coproduct_rules.specs.PartCuts.{part_cuts}
 use Rattle.coproduct_laws.proofs.CoproductCounts.{coproduct_by_counts, at_points, at_pair}
 use Rattle.coproduct_laws.proofs.LowAndHigh.{AreLow, AreHigh, high_raised}
-use Rattle.coproduct_rules.proofs.LetterBlocks.{low_from_greatest}
+use Rattle.basis_representatives.proofs.PackedWords.{letters_to_greatest}
 use Rattle.coproduct_laws.proofs.Shuffling.{over_shuffles}
 use Rattle.coproduct_rules.proofs.Chains.{is_chain, over_shuffles_comm, chain_shuffles}
 use Rattle.coproduct_rules.proofs.Splits.{splits, splits-map, splits_shuffles, splits-without_zeros}
@@ -81,7 +81,7 @@ pub complete_coproduct : (parts : List ℕ) → IsIndex NcsfS parts → IsCoprod
 complete_coproduct parts composition =
     coproduct_by_counts NcsfS parts (part_cuts parts) (λ u v hu hv.
     split_counts NcsfS (is_chain (λ x y. not (nat_lt y x))) refl complete_occurs nondecreasing_multiplies parts u v composition
-    (greatest u) (low_from_greatest (greatest u) u (omega arith)) (high_raised (greatest u) v hv)
+    (greatest u) (letters_to_greatest u (greatest u) (omega arith)) (high_raised (greatest u) v hv)
     (λ c w. splits-map (λ x. greatest u + x) (is_chain (λ x y. not (nat_lt y x))) (nondecreasing_raise (greatest u)) c w))
 
 -- NCSF.L: each part is cut in all ways
@@ -89,5 +89,5 @@ pub elementary_coproduct : (parts : List ℕ) → IsIndex NcsfL parts → IsCopr
 elementary_coproduct parts composition =
     coproduct_by_counts NcsfL parts (part_cuts parts) (λ u v hu hv.
     split_counts NcsfL (is_chain (λ x y. nat_lt y x)) refl elementary_occurs falling_multiplies parts u v composition
-    (greatest u) (low_from_greatest (greatest u) u (omega arith)) (high_raised (greatest u) v hv)
+    (greatest u) (letters_to_greatest u (greatest u) (omega arith)) (high_raised (greatest u) v hv)
     (λ c w. splits-map (λ x. greatest u + x) (is_chain (λ x y. nat_lt y x)) (falling_raise (greatest u)) c w))

@@ -7,7 +7,7 @@ use Rattle.std.proofs.lemmas.Nat.{pow-add}
 use Rattle.std.proofs.lemmas.List.{length-append, length-map}
 use Rattle.realisations.specs.Exponents.{number_cuts, exponent_cuts, without_zeros}
 use Rattle.realisations.specs.IndexKinds.{IsComposition}
-use Rattle.realisations.proofs.Every.{every-append, every-any, every-map}
+use Rattle.realisations.proofs.Every.{every-any, every-flat_map, every-map}
 use Rattle.basis_representatives.proofs.BlockWords.{IsComposition-without_zeros}
 use Rattle.coproduct_laws.proofs.ValuePairs.{suc-le-pow_two}
 use Rattle.coproduct_rules.specs.Laws.{CompleteCoproductLaw, ElementaryCoproductLaw}
@@ -18,11 +18,6 @@ use Rattle.coproduct_rules.proofs.MultiplicativeRules.{complete_coproduct, eleme
 -- a power of 2 doubles
 pub pow_two-suc : (n : ℕ) → 2 ^ suc n ≡ 2 ^ n + 2 ^ n
 pow_two-suc n = omega (arith, pow-suc 2 n)
-
--- a property of the elements of lists that are made of others with a property
-pub each_flat_map : {X Y : Type 0} (P : X → Type 0) (Q : Y → Type 0) (f : X → List Y) → ((x : X) → P x → AllByRecursion Q (f x)) → (xs : List X) → AllByRecursion P xs → AllByRecursion Q (flat_map f xs)
-each_flat_map P Q f each [] h = tt
-each_flat_map P Q f each (x ∷ xs) h = every-append Q (f x) (flat_map f xs) (each x h.0) (each_flat_map P Q f each xs h.1)
 
 -- no property
 pub any : {X : Type 0} (xs : List X) → AllByRecursion (λ x. Unit {0}) xs
@@ -48,7 +43,7 @@ sum-without_zeros (suc i ∷ parts) = omega (arith, sum-without_zeros parts, sum
 all_exponent_cuts : (parts : List ℕ) → AllByRecursion (λ (c : List ℕ × List ℕ). sum c.0 + sum c.1 ≡ sum parts) (exponent_cuts parts)
 all_exponent_cuts [] = (omega arith, tt)
 all_exponent_cuts (n ∷ parts) =
-    each_flat_map (λ (e : ℕ × ℕ). e.0 + e.1 ≡ n) (λ (c : List ℕ × List ℕ). sum c.0 + sum c.1 ≡ sum (n ∷ parts)) (λ (e : ℕ × ℕ). map (λ (c : List ℕ × List ℕ). (e.0 ∷ c.0, e.1 ∷ c.1)) (exponent_cuts parts))
+    every-flat_map (λ (e : ℕ × ℕ). e.0 + e.1 ≡ n) (λ (c : List ℕ × List ℕ). sum c.0 + sum c.1 ≡ sum (n ∷ parts)) (λ (e : ℕ × ℕ). map (λ (c : List ℕ × List ℕ). (e.0 ∷ c.0, e.1 ∷ c.1)) (exponent_cuts parts))
     (λ e h. every-map (λ (c : List ℕ × List ℕ). sum c.0 + sum c.1 ≡ sum parts) _ (λ (c : List ℕ × List ℕ). (e.0 ∷ c.0, e.1 ∷ c.1))
     (λ c k. omega (arith, h, k, sum-first e.0 c.0, sum-first e.1 c.1, sum-first n parts)) (exponent_cuts parts) (all_exponent_cuts parts))
     (number_cuts n) (all_number_cuts n)

@@ -11,7 +11,7 @@ use Rattle.realisations.proofs.Sums.{sums_same}
 use Rattle.basis_representatives.proofs.SameLists.{cons_same}
 use Rattle.coproduct_laws.proofs.LowAndHigh.{AreLow, greatest_from_low}
 use Rattle.coproduct_laws.proofs.Shuffling.{over_shuffles, over_shuffles-map}
-use Rattle.coproduct_rules.proofs.LetterBlocks.{low_from_greatest}
+use Rattle.basis_representatives.proofs.PackedWords.{letters_to_greatest}
 
 -- letters past k raised by d
 abbrev past_raised : ℕ → ℕ → ℕ → ℕ
@@ -58,7 +58,7 @@ pub pack_alike : (f : List ℕ → ℕ) → ((x y : List ℕ) → pack x ≡ pac
 pack_alike f same g u v low points =
     let k = greatest u in
     let d = g - greatest u in
-    let lows : AreLow k u = low_from_greatest k u (omega arith) in
+    let lows : AreLow k u = letters_to_greatest u k (omega arith) in
     let g_is : k + d ≡ g = let le : greatest u ≤ g = greatest_from_low g u low in omega arith in
     (λ i. over_shuffles f (sym (map_low k d u lows) i) ((ap (λ n. raise n v) (sym g_is) ∙ sym (map_high k d v points)) i))
     ∙ over_shuffles-map f (past_raised k d) u (raise k v)

@@ -11,6 +11,7 @@ use Rattle.realisations.specs.IndexKinds.{IsComposition}
 use Rattle.realisations.specs.Lists.{same_list}
 use Rattle.realisations.specs.Pairings.{longer_compositions, compositions}
 use Rattle.realisations.specs.Words.{greatest, raise, shifted_shuffles}
+use Rattle.realisations.proofs.Every.{every-flat_map}
 use Rattle.realisations.proofs.DescentCompositions.{descends}
 use Rattle.realisations.proofs.Sums.{sums, sums-scale}
 use Rattle.basis_representatives.proofs.Letters.{Letters-range}
@@ -19,14 +20,14 @@ use Rattle.coproduct_laws.specs.Coproducts.{ArePairs}
 use Rattle.coproduct_rules.specs.Laws.{RibbonCoproductLaw}
 use Rattle.coproduct_rules.specs.RibbonCuts.{ribbon_pair, ribbon_cuts}
 use Rattle.coproduct_rules.proofs.DegreeCuts.{sum-first}
-use Rattle.coproduct_rules.proofs.PartPairs.{pow_two-suc, each_flat_map, any, length-flat_map-le}
+use Rattle.coproduct_rules.proofs.PartPairs.{pow_two-suc, any, length-flat_map-le}
 use Rattle.coproduct_rules.proofs.RibbonRule.{ribbon_coproduct}
 use Rattle.coproduct_rules.proofs.ShuffleNumbers.{ways, length-shuffles, over_ways, over_range, length-flat_map, sums_range_le}
 
 -- the compositions of n are compositions with the sum n
 all_sums : (n : ℕ) → AllByRecursion (λ parts. IsComposition parts × (sum parts ≡ n)) (compositions n)
 all_sums zero = ((tt, refl), tt)
-all_sums (suc n) = each_flat_map (λ parts. IsComposition parts × (sum parts ≡ n)) (λ parts. IsComposition parts × (sum parts ≡ suc n)) (λ parts. longer_compositions parts) longer (compositions n) (all_sums n)
+all_sums (suc n) = every-flat_map (λ parts. IsComposition parts × (sum parts ≡ n)) (λ parts. IsComposition parts × (sum parts ≡ suc n)) (λ parts. longer_compositions parts) longer (compositions n) (all_sums n)
   where
     longer : (parts : List ℕ) → IsComposition parts × (sum parts ≡ n) → AllByRecursion (λ parts. IsComposition parts × (sum parts ≡ suc n)) (longer_compositions parts)
     longer [] h = (((omega arith, tt), omega (arith, h.1, sum-first 1 [])), tt)
@@ -35,10 +36,10 @@ all_sums (suc n) = each_flat_map (λ parts. IsComposition parts × (sum parts �
 
 ribbon_pairs : (parts : List ℕ) → ArePairs NcsfR parts (ribbon_cuts parts)
 ribbon_pairs parts =
-    each_flat_map (λ d. d ≤ sum parts) _ (λ d. flat_map (λ j. flat_map (λ k. ribbon_pair parts j k) (compositions (sum parts - d))) (compositions d))
-    (λ d le. each_flat_map (λ j. IsComposition j × (sum j ≡ d)) _ (λ j. flat_map (λ k. ribbon_pair parts j k) (compositions (sum parts - d)))
-    (λ j hj. each_flat_map (λ k. IsComposition k × (sum k ≡ sum parts - d)) _ (λ k. ribbon_pair parts j k)
-    (λ k hk. each_flat_map (λ x. Unit {0}) _ (λ x. if same_list (descent_composition x) parts then (j, k) ∷ [] else [])
+    every-flat_map (λ d. d ≤ sum parts) _ (λ d. flat_map (λ j. flat_map (λ k. ribbon_pair parts j k) (compositions (sum parts - d))) (compositions d))
+    (λ d le. every-flat_map (λ j. IsComposition j × (sum j ≡ d)) _ (λ j. flat_map (λ k. ribbon_pair parts j k) (compositions (sum parts - d)))
+    (λ j hj. every-flat_map (λ k. IsComposition k × (sum k ≡ sum parts - d)) _ (λ k. ribbon_pair parts j k)
+    (λ k hk. every-flat_map (λ x. Unit {0}) _ (λ x. if same_list (descent_composition x) parts then (j, k) ∷ [] else [])
     (λ x hx. by_test (same_list (descent_composition x) parts) j k hj.0 hk.0 (omega (arith, hj.1, hk.1)))
     (shifted_shuffles (word_of_composition j) (word_of_composition k)) (any (shifted_shuffles (word_of_composition j) (word_of_composition k))))
     (compositions (sum parts - d)) (all_sums (sum parts - d))) (compositions d) (all_sums d))

@@ -1,4 +1,4 @@
--- The coproduct of a ribbon, by counting shuffles (Malvenuto and Reutenauer 1995; Gelfand, Krob, Lascoux, Leclerc, Retakh, Thibon 1995).
+-- The coproduct of a ribbon, by counting shuffles (Malvenuto, Reutenauer 1995; Gelfand, Krob, Lascoux, Leclerc, Retakh, Thibon 1995).
 use Rattle.std.proofs.Common.{◌≡◌, ℕ, suc, ◌+◌, ◌-◌, ◌*◌, ◌<◌, ◌≤◌, Bool, true, false, List, [], ◌∷◌, length, refl, sym, ◌∙◌, ap, arith, inl, inr, ◌⊎◌}
 use Rattle.std.specs.Prelude.{nat_eq, if◌then◌else◌}
 use Rattle.std.specs.List.{flat_map, range_with_len, sum}
@@ -13,6 +13,7 @@ use Rattle.basis_names.specs.declared.bases.BasisId.TheVariants.{NcsfR}
 use Rattle.realisations.proofs.DescentCompositions.{descends}
 use Rattle.realisations.proofs.Sums.{sums, sums-flat_map, sums-scale, sums_same, sums_none}
 use Rattle.realisations.specs.Points.{IsPoint, word}
+use Rattle.basis_representatives.proofs.Steps.{IsComposition-descent_composition}
 use Rattle.basis_representatives.proofs.BlockWords.{descent_composition-word_of_composition}
 use Rattle.realisations.proofs.PointsOfReadings.{word_composed}
 use Rattle.coproduct_laws.specs.Coproducts.{IsCoproduct}
@@ -21,13 +22,13 @@ use Rattle.coproduct_rules.proofs.Tests.{same_list-apart}
 use Rattle.coproduct_rules.proofs.Ranges.{sums_range_none}
 use Rattle.coproduct_laws.proofs.RangeSums.{sums_up_to_single}
 use Rattle.coproduct_rules.proofs.DoubleSums.{sums-scale_right}
-use Rattle.coproduct_rules.proofs.LetterBlocks.{low_from_greatest}
+use Rattle.basis_representatives.proofs.PackedWords.{letters_to_greatest}
 use Rattle.coproduct_laws.proofs.LowAndHigh.{high_raised}
 use Rattle.coproduct_laws.proofs.CoproductCounts.{coproduct_by_counts, at_points, at_pair}
 use Rattle.coproduct_laws.proofs.Rearrangements.{over_rearrangements}
 use Rattle.coproduct_rules.proofs.RearrangedLengths.{rearranges-length}
 use Rattle.coproduct_rules.proofs.Raising.{descent_composition-raise}
-use Rattle.coproduct_rules.proofs.DescentShuffles.{descent_composition-is, descent_shuffles}
+use Rattle.coproduct_rules.proofs.DescentShuffles.{descent_shuffles}
 use Rattle.coproduct_rules.proofs.CompositionSums.{sums_selected}
 
 -- how many shuffles of words with these descent compositions have a descent composition
@@ -40,11 +41,11 @@ pub ribbon_counts : (parts u v : List ℕ) → IsPoint word v
 ribbon_counts parts u v positive =
     descent_shuffles (greatest u) (greatest (word_of_composition (descent_composition u))) (λ c. one_if (same_list c parts))
     u (raise (greatest u) v) (word_of_composition (descent_composition u)) (raise (greatest (word_of_composition (descent_composition u))) (word_of_composition (descent_composition v)))
-    (sym (descent_composition-word_of_composition (descent_composition u) (descent_composition-is u)))
+    (sym (descent_composition-word_of_composition (descent_composition u) (IsComposition-descent_composition u)))
     (descent_composition-raise (greatest u) v
-    ∙ sym (descent_composition-raise (greatest (word_of_composition (descent_composition u))) (word_of_composition (descent_composition v)) ∙ descent_composition-word_of_composition (descent_composition v) (descent_composition-is v)))
-    (low_from_greatest (greatest u) u (omega arith)) (high_raised (greatest u) v positive)
-    (low_from_greatest (greatest (word_of_composition (descent_composition u))) (word_of_composition (descent_composition u)) (omega arith))
+    ∙ sym (descent_composition-raise (greatest (word_of_composition (descent_composition u))) (word_of_composition (descent_composition v)) ∙ descent_composition-word_of_composition (descent_composition v) (IsComposition-descent_composition v)))
+    (letters_to_greatest u (greatest u) (omega arith)) (high_raised (greatest u) v positive)
+    (letters_to_greatest (word_of_composition (descent_composition u)) (greatest (word_of_composition (descent_composition u))) (omega arith))
     (high_raised (greatest (word_of_composition (descent_composition u))) (word_of_composition (descent_composition v)) (word_composed (descent_composition v)))
 
 -- none of them has another degree
@@ -83,7 +84,7 @@ degree_counts : (parts : List ℕ) (d : ℕ) (u v : List ℕ)
 degree_counts parts d u v =
     sums-flat_map counted (λ j. flat_map (λ k. ribbon_pair parts j k) (compositions (sum parts - d))) (compositions d)
     ∙ sums_same _ (λ j. one_if (same_list (descent_composition u) j) * (one_if (nat_eq (length v) (sum parts - d)) * ribbon_number parts j (descent_composition v))) (λ j. inner j) (compositions d)
-    ∙ sums_selected d (descent_composition u) (λ j. one_if (nat_eq (length v) (sum parts - d)) * ribbon_number parts j (descent_composition v)) (descent_composition-is u)
+    ∙ sums_selected d (descent_composition u) (λ j. one_if (nat_eq (length v) (sum parts - d)) * ribbon_number parts j (descent_composition v)) (IsComposition-descent_composition u)
     ∙ ap (λ n. one_if (nat_eq n d) * (one_if (nat_eq (length v) (sum parts - d)) * ribbon_number parts (descent_composition u) (descent_composition v))) ((descends u).0)
   where
     counted : List ℕ × List ℕ → ℕ
@@ -97,7 +98,7 @@ degree_counts parts d u v =
         (λ k. pair_counts parts j k u v ∙ omega arith) (compositions (sum parts - d))
         ∙ sums-scale (one_if (same_list (descent_composition u) j)) (λ k. one_if (same_list (descent_composition v) k) * ribbon_number parts j k) (compositions (sum parts - d))
         ∙ ap (λ n. one_if (same_list (descent_composition u) j) * n)
-        (sums_selected (sum parts - d) (descent_composition v) (λ k. ribbon_number parts j k) (descent_composition-is v)
+        (sums_selected (sum parts - d) (descent_composition v) (λ k. ribbon_number parts j k) (IsComposition-descent_composition v)
         ∙ ap (λ n. one_if (nat_eq n (sum parts - d)) * ribbon_number parts j (descent_composition v)) ((descends v).0))
 
 -- NCSF.R: all pairs of compositions, each as often as a shuffle of words with them has the composition

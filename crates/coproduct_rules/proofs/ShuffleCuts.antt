@@ -1,4 +1,4 @@
--- The cuts of the shuffles of two words are the shuffles of their cuts: concatenation and shuffling are compatible (Malvenuto and Reutenauer 1995).
+-- The cuts of the shuffles of two words are the shuffles of their cuts: concatenation and shuffling are compatible (Malvenuto, Reutenauer 1995).
 use Rattle.std.proofs.Common.{◌≡◌, ℕ, ◌+◌, List, [], ◌∷◌, map, refl, sym, ◌∙◌, ap, arith}
 use Rattle.std.specs.List.{AllByRecursion}
 use Rattle.realisations.specs.Words.{shuffles, word_cuts}

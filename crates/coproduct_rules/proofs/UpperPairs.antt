@@ -10,8 +10,7 @@ use Rattle.realisations.specs.IndexKinds.{IsTreeCode}
 use Rattle.basis_names.specs.declared.bases.BasisId.TheVariants.{PbtP}
 use Rattle.coproduct_laws.specs.Coproducts.{ArePairs}
 use Rattle.coproduct_rules.specs.UpperParts.{upper_parts, forest_size, AreProducts, upper_cuts}
-use Rattle.coproduct_rules.proofs.PartPairs.{each_flat_map}
-use Rattle.realisations.proofs.Every.{every-map}
+use Rattle.realisations.proofs.Every.{every-flat_map, every-map}
 use Rattle.coproduct_rules.proofs.PartPairs.{length-flat_map-le, pow_two-suc}
 use Rattle.basis_representatives.proofs.TreeCodes.{length-tree_code}
 use Rattle.coproduct_rules.specs.Laws.{TreeCoproductLaw}
@@ -27,7 +26,7 @@ pub upper_sizes : (tree : Tree) → AllByRecursion (λ e. forest_size e.0 + tree
 upper_sizes empty = (omega arith, tt)
 upper_sizes (node l r) = (
   omega arith,
-  each_flat_map (λ (a : List Tree × Tree). forest_size a.0 + tree_size a.1 ≡ tree_size l) _ (λ (a : List Tree × Tree). map (λ (b : List Tree × Tree). (a.0 ++ b.0, node a.1 b.1)) (upper_parts r))
+  every-flat_map (λ (a : List Tree × Tree). forest_size a.0 + tree_size a.1 ≡ tree_size l) _ (λ (a : List Tree × Tree). map (λ (b : List Tree × Tree). (a.0 ++ b.0, node a.1 b.1)) (upper_parts r))
       (λ a ha. every-map (λ (b : List Tree × Tree). forest_size b.0 + tree_size b.1 ≡ tree_size r) _ (λ (b : List Tree × Tree). (a.0 ++ b.0, node a.1 b.1))
       (λ b hb. omega (arith, ha, hb, forest_size-append a.0 b.0)) (upper_parts r) (upper_sizes r))
       (upper_parts l) (upper_sizes l),
@@ -47,7 +46,7 @@ module _ (products : List Tree → List (List ℕ)) (are : AreProducts products)
   -- PBT.P: pairs of codes of trees
   pub tree_pairs : ArePairs PbtP (tree_code tree) (upper_cuts products tree)
   tree_pairs =
-      each_flat_map (λ (e : List Tree × Tree). forest_size e.0 + tree_size e.1 ≡ tree_size tree) _ (λ e. map (λ code. (code, tree_code e.1)) (products e.0))
+      every-flat_map (λ (e : List Tree × Tree). forest_size e.0 + tree_size e.1 ≡ tree_size tree) _ (λ e. map (λ code. (code, tree_code e.1)) (products e.0))
       (λ e he. every-map (λ code. IsTreeCode code × (length code ≡ forest_size e.0)) _ (λ code. (code, tree_code e.1))
       (λ code h. (h.0, (e.1, refl), omega (arith, h.1, he, length-tree_code e.1, length-tree_code tree))) (products e.0) (are.indices e.0))
       (upper_parts tree) (upper_sizes tree)

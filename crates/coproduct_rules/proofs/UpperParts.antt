@@ -1,4 +1,4 @@
--- The coproduct of an element of PBT.P, over the upper parts of its tree (Loday and Ronco 1998; Hivert, Novelli and Thibon 2005).
+-- The coproduct of an element of PBT.P, over the upper parts of its tree (Loday, Ronco 1998; Hivert, Novelli, Thibon 2005).
 use Rattle.std.proofs.Common.{◌≡◌, ℕ, ◌+◌, ◌*◌, ◌<◌, ◌≤◌, List, [], ◌∷◌, ◌++◌, map, refl, sym, ◌∙◌, ap, subst, arith}
 use Rattle.std.specs.List.{AllByRecursion, flat_map}
 use Rattle.realisations.specs.Lists.{same_list, one_if}

@@ -14,7 +14,7 @@ use Rattle.realisations.proofs.Sums.{sums, sums-map, sums-flat_map, sums_same}
 use Rattle.coproduct_laws.specs.Coproducts.{IsCoproduct}
 use Rattle.coproduct_rules.specs.UpperParts.{upper_parts, product_of_trees, AreProducts, upper_cuts}
 use Rattle.coproduct_rules.proofs.DoubleSums.{sums-scale_right}
-use Rattle.coproduct_rules.proofs.LetterBlocks.{low_from_greatest}
+use Rattle.basis_representatives.proofs.PackedWords.{letters_to_greatest}
 use Rattle.coproduct_laws.proofs.LowAndHigh.{high_raised}
 use Rattle.coproduct_laws.proofs.CoproductCounts.{coproduct_by_counts, at_points}
 use Rattle.coproduct_rules.proofs.KeyReadings.{numerator-coproduct}
@@ -25,7 +25,7 @@ use Rattle.coproduct_rules.proofs.UpperParts.{forest_count, upper_count, upper_p
 -- the points at which the element of a tree occurs in the coproduct are counted by the upper parts
 pub upper_points : (tree : Tree) (u v : List ℕ) → IsPoint word v → at_points PbtP (tree_code tree) (shifted_shuffles u v) ≡ upper_count tree u v
 upper_points tree u v positive =
-    upper_parts_count (greatest u) tree u (raise (greatest u) v) (low_from_greatest (greatest u) u (omega arith)) (high_raised (greatest u) v positive)
+    upper_parts_count (greatest u) tree u (raise (greatest u) v) (letters_to_greatest u (greatest u) (omega arith)) (high_raised (greatest u) v positive)
     ∙ ap (λ t. sums (λ e. forest_count e.0 u * is_tree t e.1) (upper_parts tree)) (decreasing_tree-raise (greatest u) v)
 
 -- a product of elements of trees reads as the number of ways to cut a word into words with these trees
