@@ -1,0 +1,15 @@
+pub mod BitMatrices
+pub mod BitTests
+pub mod ChangeAnswers
+pub mod Changes
+pub mod CompositionsByBits
+pub mod CoproductsExist
+pub mod IntSums
+pub mod LiftedKeys
+pub mod Lifts
+pub mod ListedSums
+pub mod NcsfChanges
+pub mod OperationsAt
+pub mod PassingSums
+pub mod QsymChanges
+pub mod SignedEntries

@@ -1,0 +1,4 @@
+pub mod Changes
+pub mod KnownTerms
+pub mod Laws
+pub mod Lifts

@@ -1,0 +1,9 @@
+pub mod Components
+pub mod Counits
+pub mod DegreeCuts
+pub mod KnownPairs
+pub mod Laws
+pub mod PartCuts
+pub mod PlaceCuts
+pub mod RibbonCuts
+pub mod UpperParts
