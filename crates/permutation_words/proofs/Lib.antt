@@ -6,3 +6,4 @@ pub mod Counting
 pub mod DescentRuns
 pub mod GrownPermutations
 pub mod ShuffledCodes
+pub mod ShufflePlaces

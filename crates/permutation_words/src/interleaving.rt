@@ -1,32 +1,44 @@
 //! Shuffles of words.
-ghost use Rattle.std.specs.Prelude.{◌≡◌, ◌+◌, ◌≤◌, ◌++◌, length, IsTrue, OnOk, IfOk};
-ghost use Rattle.linear_combos.specs.Codes.{IsCode, all_letters};
+ghost use Rattle.std.specs.Prelude.{◌≡◌, ◌+◌, ◌≤◌, length, IsTrue, IfOk};
+ghost use Rattle.std.specs.List.{range_with_len};
+ghost use Rattle.itertools.specs.Pool.{combination_can, combination_left};
+ghost use Rattle.linear_combos.specs.Codes.{all_letters};
 ghost use Rattle.realisations.specs.Words.{raise, shuffles as shuffles_of, shifted_shuffles};
-ghost use Rattle.permutation_words.specs.Interleaving.{behind, HasRoomBehind};
+ghost use Rattle.permutation_words.specs.Interleaving.{TakesLettersAt, ascending_places, put_in};
 
 use crate::Permutation;
 use hopf_num::OutOfMemory;
+use itertools::{Combinations, Itertools};
 use linear_combos::{Code, Codes};
 use std::alloc::Global;
 
-// Adds each shuffle of two words, behind a word, by the places of the first one in lexicographic
-// order. It recurs once for each front of a shuffle.
-fn push_shuffles(out: &mut Codes, word: &Code, a: &Code, b: &Code) -> Result<(), OutOfMemory>
-    requires { HasRoomBehind word.now a.now b.now }
-    ensures { OnOk result (out.new ≡ out.old ++ behind word.now (shuffles_of a.now b.now)) }
+// The lists of so many ascending places among all of them, in lexicographic order.
+fn lists_of_places(
+    alloc: Global,
+    all: usize,
+    chosen: usize,
+) -> Result<Combinations<usize, Global>, OutOfMemory>
+    ensures can { IfOk result combination_can }
+    ensures pool { IfOk result (λ lists. lists.pool.items ≡ range_with_len 0 all) }
+    ensures left { IfOk result (λ lists. combination_left lists ≡ ascending_places all chosen) }
 {
-    let (first_len, second_len) = (a.len(), b.len());
-    if first_len == 0 {
-        return out.push(word.followed_by(b));
+    let lists = (0..all).combinations(alloc, chosen)?;
+    Ok(lists)
+}
+
+// The word in which the letters of the first word stand at these places, one for each of them in
+// ascending order, and those of the second word at the others: each letter of the first word is put
+// in at its place, from the first one on.
+fn interleaved(a: &Code, b: &Code, places: &[usize]) -> Code
+    requires { TakesLettersAt places.now a.now b.now }
+    ensures { result ≡ put_in places.now a.now b.now }
+{
+    let mut word = *b;
+    for (at, place) in places.iter().enumerate() {
+        let behind = word.suffix(*place);
+        word = word.prefix(*place).with(a.letter(at)).followed_by(&behind);
     }
-    if second_len == 0 {
-        return out.push(word.followed_by(a));
-    }
-    let (behind_first, behind_second) = (a.suffix(1), b.suffix(1));
-    let left = word.with(a.letter(0));
-    push_shuffles(out, &left, &behind_first, b)?;
-    let right = word.with(b.letter(0));
-    push_shuffles(out, &right, a, &behind_second)
+    word
 }
 
 // The code with each letter raised.
@@ -50,8 +62,9 @@ pub fn shuffles(alloc: Global, a: &Code, b: &Code) -> Result<Codes, OutOfMemory>
     ensures { IfOk result (λ codes. codes ≡ shuffles_of a.now b.now) }
 {
     let mut codes = Codes::new(alloc);
-    let word = Code::empty();
-    push_shuffles(&mut codes, &word, a, b)?;
+    for places in lists_of_places(alloc, a.len() + b.len(), a.len())? {
+        codes.push(interleaved(a, b, places?.as_slice()))?;
+    }
     Ok(codes)
 }
 
