@@ -1,12 +1,6 @@
 -- Nothing here need be believed: how one word is put into another, letter by letter. The public contracts speak of the shuffles alone.
 use Rattle.std.specs.Prelude.{◌≡◌, ℕ, ◌+◌, ◌≤◌, List, [], ◌∷◌, insert, length, slice_index, EachIndex}
-use Rattle.itertools.specs.Odometer.{ways}
-use Rattle.itertools.specs.Pool.{ascending_high, ascending_low}
 use Rattle.linear_combos.specs.Codes.{IsCode}
-
--- the lists of k ascending places among n, in lexicographic order
-abbrev pub ascending_places : ℕ → ℕ → List (List ℕ)
-ascending_places n k = ways ascending_low (ascending_high n k) k []
 
 -- the letters of a put into a word, each at its place, from the first on
 abbrev pub put_in : List ℕ → List ℕ → List ℕ → List ℕ

@@ -1,42 +1,26 @@
 //! Shuffles of words.
 ghost use Rattle.std.specs.Prelude.{◌≡◌, ◌+◌, ◌≤◌, length, IsTrue, IfOk};
-ghost use Rattle.std.specs.List.{range_with_len};
-ghost use Rattle.itertools.specs.Pool.{combination_can, combination_left};
 ghost use Rattle.linear_combos.specs.Codes.{all_letters};
 ghost use Rattle.realisations.specs.Words.{raise, shuffles as shuffles_of, shifted_shuffles};
-ghost use Rattle.permutation_words.specs.Interleaving.{TakesLettersAt, ascending_places, put_in};
+ghost use Rattle.permutation_words.specs.Interleaving.{TakesLettersAt, put_in};
 
 use crate::Permutation;
 use hopf_num::OutOfMemory;
-use itertools::{Combinations, Itertools};
+use itertools::Itertools;
 use linear_combos::{Code, Codes};
 use std::alloc::Global;
 
-// The lists of so many ascending places among all of them, in lexicographic order.
-fn lists_of_places(
-    alloc: Global,
-    all: usize,
-    chosen: usize,
-) -> Result<Combinations<usize, Global>, OutOfMemory>
-    ensures can { IfOk result combination_can }
-    ensures pool { IfOk result (λ lists. lists.pool.items ≡ range_with_len 0 all) }
-    ensures left { IfOk result (λ lists. combination_left lists ≡ ascending_places all chosen) }
-{
-    let lists = (0..all).combinations(alloc, chosen)?;
-    Ok(lists)
-}
-
-// The word in which the letters of the first word stand at these places, one for each of them in
-// ascending order, and those of the second word at the others: each letter of the first word is put
-// in at its place, from the first one on.
+// The word in which the letters of the first word stand at these ascending places, one for each of
+// them, and those of the second word at the others: from the first one on, each letter of the first
+// word is put in at its place.
 fn interleaved(a: &Code, b: &Code, places: &[usize]) -> Code
     requires { TakesLettersAt places.now a.now b.now }
     ensures { result ≡ put_in places.now a.now b.now }
 {
     let mut word = *b;
-    for (at, place) in places.iter().enumerate() {
-        let behind = word.suffix(*place);
-        word = word.prefix(*place).with(a.letter(at)).followed_by(&behind);
+    for (at, &place) in places.iter().enumerate() {
+        let rest = word.suffix(place);
+        word = word.prefix(place).with(a.letter(at)).followed_by(&rest);
     }
     word
 }
@@ -54,15 +38,19 @@ fn raised(by: u8, code: &Code) -> Code
 }
 
 /// The shuffles of two words (Eilenberg, Mac Lane 1953): their letters interleaved, each word as often
-/// as it arises, by the places of the first word in lexicographic order.
+/// as it arises. For each list of places of the first word's letters, in lexicographic order, there is
+/// the word that has these letters there, and those of the second word at the other places.
 ///
-/// The cost grows with their number, the binomial coefficient of both lengths together over the first.
+/// There are as many as the binomial coefficient of both lengths together over the first. The cost of
+/// each is in proportion to the length of the first word, and its list of places takes memory while it
+/// is made.
 pub fn shuffles(alloc: Global, a: &Code, b: &Code) -> Result<Codes, OutOfMemory>
     requires { length a.now + length b.now ≤ 15 }
     ensures { IfOk result (λ codes. codes ≡ shuffles_of a.now b.now) }
 {
     let mut codes = Codes::new(alloc);
-    for places in lists_of_places(alloc, a.len() + b.len(), a.len())? {
+    let all = a.len() + b.len();
+    for places in (0..all).combinations(alloc, a.len())? {
         codes.push(interleaved(a, b, places?.as_slice()))?;
     }
     Ok(codes)

@@ -1,12 +1,12 @@
 use Rattle.std.proofs.Common.{◌+◌, arith}
-use Rattle.permutation_words.proofs.ShufflePlaces.{all_left, next_left, next_takes}
+use Rattle.permutation_words.proofs.ListsOfPlaces.{all_left, next_left, next_takes}
 use Rattle.permutation_words.proofs.interleaving.shuffles.Goals as goal
 
 pub loop-places-init : goal.loop-places-init
 loop-places-init c =
     all_left c.args.a.now c.args.b.now c.new-codes.result c.in_ok-places-items.places-items c.into_iter-places-iterator.result (c.len.result + c.len-2.result) c.len-3.result
     (omega (arith, c.len.ensures.value, c.len-2.ensures.value)) c.len-3.ensures.value c.new-codes.ensures c.into_iter-places-iterator.ensures.into_iter_gives
-    c.in_ok-places-items.ensures.pool c.in_ok-places-items.ensures.left
+    c.in_ok-places-items.places-items.pool.ok.0 c.in_ok-places-items.ensures.pool c.in_ok-places-items.ensures.places
 
 pub interleaved-requires : goal.interleaved-requires
 interleaved-requires c =

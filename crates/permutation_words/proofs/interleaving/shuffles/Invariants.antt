@@ -1,4 +1,4 @@
-use Rattle.permutation_words.proofs.ShufflePlaces.{AreLeft}
+use Rattle.permutation_words.proofs.ListsOfPlaces.{AreLeft}
 use Rattle.permutation_words.proofs.interleaving.shuffles.Given as goal
 
 abbrev pub invariant-loop-places : goal.invariant-loop-places
