@@ -1,7 +1,7 @@
 -- Shuffles with a word whose letters are raised.
-use Rattle.std.proofs.Common.{◌≡◌, ℕ, ◌+◌, ◌≤◌, List, [], ◌∷◌, ◌++◌, length, map, drop, get_or, refl, sym, ◌∙◌, ap, arith, append_assoc}
+use Rattle.std.proofs.Common.{◌≡◌, ℕ, ◌+◌, ◌≤◌, List, [], ◌∷◌, length, sym, ◌∙◌, ap, arith}
 use Rattle.std.specs.Prelude.{IsTrue}
-use Rattle.std.proofs.lemmas.List.{length-map, map-append}
+use Rattle.std.proofs.lemmas.List.{length-map}
 use Rattle.realisations.specs.IndexKinds.{is_permutation}
 use Rattle.realisations.specs.Words.{greatest, raise, shifted_shuffles, shuffles}
 use Rattle.realisations.proofs.RisingMaps.{Letters}
