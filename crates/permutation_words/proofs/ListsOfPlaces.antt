@@ -138,10 +138,10 @@ module _ {Z E : Type 0} (a b : List ℕ) (codes : List (List ℕ)) (s t : Combin
       let pushed : new ≡ codes ++ put_in v.items a b ∷ [] = is_new ∙ ap (λ w. codes ++ w ∷ []) (is_word ∙ ap (λ q. put_in q a b) same) in
       record {
         shuffled =
-          ap (λ ws. ws ++ map (λ q. put_in q a b) (combination_left t)) pushed
-          ∙ append_assoc codes (put_in v.items a b ∷ []) (map (λ q. put_in q a b) (combination_left t))
-          ∙ ap (λ ls. codes ++ map (λ q. put_in q a b) ls) (sym next_is.1)
-          ∙ left.shuffled;
+            ap (λ ws. ws ++ map (λ q. put_in q a b) (combination_left t)) pushed
+            ∙ append_assoc codes (put_in v.items a b ∷ []) (map (λ q. put_in q a b) (combination_left t))
+            ∙ ap (λ ls. codes ++ map (λ q. put_in q a b) ls) (sym next_is.1)
+            ∙ left.shuffled;
         places = next_is.2;
         pool = next_is.3;
       }

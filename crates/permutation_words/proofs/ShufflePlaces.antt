@@ -48,7 +48,7 @@ first_at word a b x d e (q ∷ ds) = λ i. put_in q a ((ap (λ n. insert (word +
 -- x and the other letters put in behind a word, where those others give the shuffles with each word, from each place on
 module _ (n k x : ℕ) (a : List ℕ)
     (others : (word b p : List ℕ) → length p + length a ≡ k → length word + length a + length b ≡ n → ascending_low p ≡ length word
-      → map (λ q. put_in q a (word ++ b)) (ways ascending_low (ascending_high n k) (length a) p) ≡ behind word (shuffles a b)) where
+    → map (λ q. put_in q a (word ++ b)) (ways ascending_low (ascending_high n k) (length a) p) ≡ behind word (shuffles a b)) where
   -- the place of x is the first one behind the word
   here : (word b p : List ℕ) → length p + suc (length a) ≡ k → length word + suc (length a) + length b ≡ n
       → map (λ q. put_in q (x ∷ a) (word ++ b)) (map (λ q. length word ∷ q) (ways ascending_low (ascending_high n k) (length a) (p ++ length word ∷ []))) ≡ behind (word ++ x ∷ []) (shuffles a b)
