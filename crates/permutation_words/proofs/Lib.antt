@@ -5,4 +5,6 @@ pub mod ConvolvedCodes
 pub mod Counting
 pub mod DescentRuns
 pub mod GrownPermutations
+pub mod ListsOfPlaces
+pub mod ShufflePlaces
 pub mod ShuffledCodes

@@ -1,32 +1,28 @@
 //! Shuffles of words.
-ghost use Rattle.std.specs.Prelude.{◌≡◌, ◌+◌, ◌≤◌, ◌++◌, length, IsTrue, OnOk, IfOk};
-ghost use Rattle.linear_combos.specs.Codes.{IsCode, all_letters};
+ghost use Rattle.std.specs.Prelude.{◌≡◌, ◌+◌, ◌≤◌, length, IsTrue, IfOk};
+ghost use Rattle.linear_combos.specs.Codes.{all_letters};
 ghost use Rattle.realisations.specs.Words.{raise, shuffles as shuffles_of, shifted_shuffles};
-ghost use Rattle.permutation_words.specs.Interleaving.{behind, HasRoomBehind};
+ghost use Rattle.permutation_words.specs.Interleaving.{TakesLettersAt, put_in};
 
 use crate::Permutation;
 use hopf_num::OutOfMemory;
+use itertools::Itertools;
 use linear_combos::{Code, Codes};
 use std::alloc::Global;
 
-// Adds each shuffle of two words, behind a word, by the places of the first one in lexicographic
-// order. It recurs once for each front of a shuffle.
-fn push_shuffles(out: &mut Codes, word: &Code, a: &Code, b: &Code) -> Result<(), OutOfMemory>
-    requires { HasRoomBehind word.now a.now b.now }
-    ensures { OnOk result (out.new ≡ out.old ++ behind word.now (shuffles_of a.now b.now)) }
+// The word in which the letters of the first word stand at these ascending places, one for each of
+// them, and those of the second word at the others: from the first one on, each letter of the first
+// word is put in at its place.
+fn interleaved(a: &Code, b: &Code, places: &[usize]) -> Code
+    requires { TakesLettersAt places.now a.now b.now }
+    ensures { result ≡ put_in places.now a.now b.now }
 {
-    let (first_len, second_len) = (a.len(), b.len());
-    if first_len == 0 {
-        return out.push(word.followed_by(b));
+    let mut word = *b;
+    for (at, &place) in places.iter().enumerate() {
+        let rest = word.suffix(place);
+        word = word.prefix(place).with(a.letter(at)).followed_by(&rest);
     }
-    if second_len == 0 {
-        return out.push(word.followed_by(a));
-    }
-    let (behind_first, behind_second) = (a.suffix(1), b.suffix(1));
-    let left = word.with(a.letter(0));
-    push_shuffles(out, &left, &behind_first, b)?;
-    let right = word.with(b.letter(0));
-    push_shuffles(out, &right, a, &behind_second)
+    word
 }
 
 // The code with each letter raised.
@@ -42,16 +38,21 @@ fn raised(by: u8, code: &Code) -> Code
 }
 
 /// The shuffles of two words (Eilenberg, Mac Lane 1953): their letters interleaved, each word as often
-/// as it arises, by the places of the first word in lexicographic order.
+/// as it arises. For each list of places of the first word's letters, in lexicographic order, there is
+/// the word that has these letters there, and those of the second word at the other places.
 ///
-/// The cost grows with their number, the binomial coefficient of both lengths together over the first.
+/// There are as many as the binomial coefficient of both lengths together over the first. The cost of
+/// each is in proportion to the length of the first word, and its list of places takes memory while it
+/// is made.
 pub fn shuffles(alloc: Global, a: &Code, b: &Code) -> Result<Codes, OutOfMemory>
     requires { length a.now + length b.now ≤ 15 }
     ensures { IfOk result (λ codes. codes ≡ shuffles_of a.now b.now) }
 {
     let mut codes = Codes::new(alloc);
-    let word = Code::empty();
-    push_shuffles(&mut codes, &word, a, b)?;
+    let all = a.len() + b.len();
+    for places in (0..all).combinations(alloc, a.len())? {
+        codes.push(interleaved(a, b, places?.as_slice()))?;
+    }
     Ok(codes)
 }
 
