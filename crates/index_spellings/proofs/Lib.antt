@@ -1,2 +1,6 @@
-pub mod PartsText
+pub mod ClosingBrackets
+pub mod RowTests
+pub mod RowsRead
+pub mod SpelledTrees
 pub mod Spellings
+pub mod StandardRows

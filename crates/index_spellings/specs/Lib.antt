@@ -1,2 +1,5 @@
-pub mod Compositions
 pub mod Indices
+pub mod Items
+pub mod KeptRows
+pub mod Texts
+pub mod TreeCodes
