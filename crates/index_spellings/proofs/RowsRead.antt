@@ -65,7 +65,7 @@ row_code : (closed : List (List ℕ)) (row : List ℕ) (more : List (List ℕ)) 
 row_code [] row more h = h.0
 row_code (r ∷ closed) row more h = row_code closed row more h.1
 
-front_code : (u v : List ℕ) → IsCode (u ++ v) → IsCode u
+pub front_code : (u v : List ℕ) → IsCode (u ++ v) → IsCode u
 front_code u v h = record { short = omega (arith, h.short, length-append u v); letters = letters_to u (letters_at_left u v (letters_from (u ++ v) h.letters)) }
 
 -- what is read so far, and what is left

@@ -5,6 +5,8 @@ mod brackets;
 mod indices;
 mod lists;
 mod rows;
+mod texts;
 mod trees;
 
 pub use indices::{begins_bad_list, index_in};
+pub use texts::{append_index, append_list};
