@@ -1,4 +1,5 @@
 pub mod ClosingBrackets
+pub mod ReadBack
 pub mod RowTests
 pub mod RowsOfCodes
 pub mod RowsRead

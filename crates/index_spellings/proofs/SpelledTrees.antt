@@ -35,8 +35,10 @@ code_of_node limit (Some l) (Some r) = by_tests (nat_le (tree_size l) limit) (na
   where
     joined : tree_code l ++ suc (tree_size r) ∷ tree_code r ≡ tree_code l ++ suc (length (tree_code r)) ∷ tree_code r
     joined = ap (λ n. tree_code l ++ suc n ∷ tree_code r) (sym (length-tree_code r))
+
     whole : nat_le (suc (tree_size l + tree_size r)) limit ≡ nat_lt (length (tree_code l) + length (tree_code r)) limit
     whole = ap (λ n. nat_le (suc n) limit) (λ i. sym (length-tree_code l) i + sym (length-tree_code r) i) ∙ nat_le-suc (length (tree_code l) + length (tree_code r)) limit
+
     by_tests : (p q : Bool) → nat_le (tree_size l) limit ≡ p → nat_le (tree_size r) limit ≡ q
         → (if nat_le (suc (tree_size l + tree_size r)) limit then Some (tree_code l ++ suc (tree_size r) ∷ tree_code r) else None)
         ≡ node_by limit (if p then Some (tree_code l) else None) (if q then Some (tree_code r) else None)

@@ -3,10 +3,12 @@
 
 mod brackets;
 mod indices;
+mod laws;
 mod lists;
 mod rows;
 mod texts;
 mod trees;
 
 pub use indices::{begins_bad_list, index_in};
+pub use laws::spelling_law;
 pub use texts::{append_index, append_list};

@@ -1,0 +1,10 @@
+//! Laws of spelled indices. A function here computes nothing: callers cite its clause.
+ghost use Rattle.index_spellings.specs.Laws.{SpellingLaw};
+
+/// Each index of a basis within the degree limit of its algebra is read back from the items of its
+/// spelling, and what a list spells is such an index.
+///
+/// Nothing is computed: callers cite the clause.
+pub fn spelling_law()
+    ensures { SpellingLaw }
+{}
