@@ -23,7 +23,7 @@ places_up_to r k m (x ∷ code) low high = by_test (nat_eq x r) (places_up_to r 
     by_test false ih = (ih.0, omega (arith, ih.1))
 
 -- the places of a letter in a code are a code
-IsCode-places : (r : ℕ) (code : List ℕ) → IsCode code → IsCode (places_of r 1 code)
+pub IsCode-places : (r : ℕ) (code : List ℕ) → IsCode code → IsCode (places_of r 1 code)
 IsCode-places r code h =
     let places = places_up_to r 1 15 code (omega arith) (omega (arith, h.short)) in
     IsCode-up_to 15 (places_of r 1 code) (omega arith) (omega (arith, places.1, h.short)) places.0

@@ -34,10 +34,9 @@ pub fn begins_bad_list(lexemes: &[Lexeme]) -> bool
     ensures { result ≡ begins_with_bad_list lexemes.now }
 {
     match lexemes {
-        [Lexeme::Basis(basis), Lexeme::LeftBracket, behind @ ..] => index_in(
-            *basis,
-            inside_list(behind),
-        ).is_none(),
+        [Lexeme::Basis(basis), Lexeme::LeftBracket, behind @ ..] => {
+            index_in(*basis, inside_list(behind)).is_none()
+        }
         _ => false,
     }
 }

@@ -10,5 +10,5 @@ mod texts;
 mod trees;
 
 pub use indices::{begins_bad_list, index_in};
-pub use laws::spelling_law;
+pub use laws::{element_text_law, spelling_law};
 pub use texts::{append_index, append_list};
