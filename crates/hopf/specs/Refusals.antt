@@ -3,7 +3,7 @@ use Rattle.std.specs.Prelude.{ℕ, List, ◌++◌, codes}
 use Rattle.std.specs.Fmt.{decimal}
 use Rattle.basis_names.specs.Bases.{name_of_algebra}
 use Rattle.basis_names.specs.declared.bases.AlgebraId.{AlgebraId}
-use Rattle.index_spellings.specs.Compositions.{composition_text}
+use Rattle.index_spellings.specs.Texts.{list_text}
 use Rattle.basis_routes.specs.declared.refusal.Refusal.{Refusal}
 use Rattle.session_reading.specs.declared.fault.GrammarFault.{GrammarFault}
 use Rattle.hopf.specs.declared.refusal.StatementRefusal.{StatementRefusal}
@@ -54,7 +54,7 @@ text_of_fault fault.Memory = codes "out of memory"
 
 -- the words are spelled as lists
 abbrev pub text_not_in : AlgebraId → List ℕ → List ℕ → List ℕ
-text_not_in algebra u v = codes "not in " ++ name_of_algebra algebra ++ codes ": " ++ composition_text u ++ codes " and " ++ composition_text v ++ codes " read differently"
+text_not_in algebra u v = codes "not in " ++ name_of_algebra algebra ++ codes ": " ++ list_text u ++ codes " and " ++ list_text v ++ codes " read differently"
 
 abbrev pub text_of_value : Refusal → List ℕ
 text_of_value value.Rank = codes "wrong rank"

@@ -7,7 +7,7 @@ use basis_names::{AlgebraId, algebra_name};
 use basis_routes::Refusal;
 use hopf_io::Bytes;
 use hopf_num::OutOfMemory;
-use index_spellings::append_composition;
+use index_spellings::append_list;
 use linear_combos::Code;
 use session_reading::GrammarFault;
 use session_tokens::Name;
@@ -112,9 +112,9 @@ fn push_not_in(
 {
     push_both(b"not in ", algebra_name(algebra), out)?;
     out.push_all(b": ")?;
-    append_composition(alloc, &u, out)?;
+    append_list(alloc, &u, out)?;
     out.push_all(b" and ")?;
-    append_composition(alloc, &v, out)?;
+    append_list(alloc, &v, out)?;
     out.push_all(b" read differently")
 }
 

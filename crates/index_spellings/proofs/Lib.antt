@@ -1,2 +1,12 @@
-pub mod PartsText
+pub mod ClosingBrackets
+pub mod DecimalDigits
+pub mod ElementTokens
+pub mod ReadBack
+pub mod RowTests
+pub mod RowsOfCodes
+pub mod RowsRead
+pub mod SpelledTokens
+pub mod SpelledTrees
 pub mod Spellings
+pub mod StandardRows
+pub mod TextsInTurn

@@ -4,9 +4,8 @@ use Rattle.basis_names.specs.declared.bases.BasisId.{BasisId}
 use Rattle.basis_names.specs.declared.bases.BasisId.TheVariants.{QsymM, QsymF, NcsfS, NcsfL, NcsfR, FqsymF, FqsymG, WqsymM, FsymS, PbtP}
 use Rattle.built_bases.specs.Table.{is_built}
 use Rattle.session_tokens.specs.declared.lexeme.Lexeme.{Lexeme}
-use Rattle.index_spellings.specs.Compositions.{numbers_in, composition_in}
 use Rattle.index_spellings.specs.Indices.{index_in}
-use Rattle.index_spellings.proofs.Spellings.{IsWithin, CompositionOf, composition_of-numbers}
+use Rattle.index_spellings.proofs.ReadBack.{spellings}
 use Rattle.basis_routes.specs.Rules.{IsIndexWithin}
 use Rattle.session_evaluation.specs.Elements.{Spells}
 
@@ -16,16 +15,10 @@ spells_once basis items code code' h h' =
     let codes : Some code ≡ Some code' = sym h.spelled ∙ h'.spelled in
     cc
 
--- What is spelled as a composition within a limit is one.
-spelled_composition : (limit : ℕ) (items : List Lexeme) (code : List ℕ) → composition_in limit items ≡ Some code → IsWithin limit code
-spelled_composition limit items code is =
-    let P : Option (List ℕ) → Type 0 = λ o. CompositionOf limit (numbers_in items) o in
-    (subst P is (composition_of-numbers limit (numbers_in items))).1
-
 -- An index of a built basis is within the limit of its algebra.
 index_within : (basis : BasisId) (items : List Lexeme) (code : List ℕ) → IsTrue (is_built basis) → index_in basis items ≡ Some code → IsIndexWithin basis code
 index_within QsymM items code built spelled =
-    let within = spelled_composition 10 items code spelled in
+    let within = spellings.index QsymM items code spelled in
     record { built = refl; index = within.0; degree = within.1 }
 index_within QsymF items code built spelled = absurd (cc)
 index_within NcsfS items code built spelled = absurd (cc)

@@ -2,15 +2,16 @@
 use Rattle.std.specs.Prelude.{◌≡◌, ℕ, ℤ, pos, negsuc, ◌*ℤ◌, List, [], ◌∷◌, ◌++◌, ◌==◌, ◌&&◌, if◌then◌else◌, codes, unsigned_abs}
 use Rattle.std.specs.Fmt.{decimal}
 use Rattle.basis_names.specs.Bases.{name_of}
-use Rattle.index_spellings.specs.Compositions.{composition_text}
+use Rattle.index_spellings.specs.Texts.{index_spelling}
+use Rattle.realisations.specs.Bases.{index_kind_of}
 use Rattle.hopf_num.specs.Fractions.{Ratio, IsFraction, over_text, fraction_text}
 use Rattle.realisations.specs.Readings.{Terms}
 use Rattle.basis_names.specs.declared.bases.BasisId.{BasisId}
 use Rattle.hopf_laws.specs.Values.{Expansion}
 
--- an element of a built basis: the name of the basis, and the spelling of the index, a composition
+-- a basis element: the name of the basis, and the spelling of the index
 abbrev pub index_text : BasisId → List ℕ → List ℕ
-index_text basis code = name_of basis ++ composition_text code
+index_text basis code = name_of basis ++ index_spelling (index_kind_of basis) code
 
 -- the basis elements of a key behind the first, each behind ` # `
 abbrev pub later_elements_text : List BasisId → List (List ℕ) → List ℕ

@@ -5,7 +5,7 @@ ghost use Rattle.hopf_num.specs.Fractions.{fraction_text, over_text};
 ghost use Rattle.realisations.specs.Combinations.{term_at};
 ghost use Rattle.value_texts.specs.Text.{key_text, coefficient_text, term_text, first_sign, later_sign, IsCoefficient, IsTextOf, AppendsText};
 
-use crate::elements::append_index;
+use crate::elements::append_element;
 use basis_routes::{Bases, Value};
 use hopf_io::Bytes;
 use hopf_num::{Fraction, OutOfMemory};
@@ -110,10 +110,10 @@ fn append_key(alloc: Global, bases: &Bases, key: &Key, out: &mut Bytes) -> Resul
     if bases.len() == 0 {
         return Ok(());
     }
-    append_index(alloc, bases.at(1), key.code(1), out)?;
+    append_element(alloc, bases.at(1), key.code(1), out)?;
     for component in 2..=bases.len() {
         out.push_all(b" # ")?;
-        append_index(alloc, bases.at(component), key.code(component), out)?;
+        append_element(alloc, bases.at(component), key.code(component), out)?;
     }
     Ok(())
 }

@@ -1,0 +1,13 @@
+use Rattle.std.proofs.Common.{◌≡◌, ◌≤◌, ◌∙◌, length, arith}
+use Rattle.realisations.specs.IndexKinds.{is_packed}
+use Rattle.packed_words.proofs.PackedCodes.{IsCode-packed}
+use Rattle.basis_representatives.proofs.PackedWords.{all_letters}
+use Rattle.index_spellings.specs.Items.{numbers_in}
+use Rattle.index_spellings.proofs.Spellings.{code-spelled, nothing-spelled}
+use Rattle.index_spellings.proofs.lists.packed_word_in.Goals as goal
+
+pub returns-in_err-code : goal.returns-in_err-code
+returns-in_err-code c =
+    c.from_residual.ensures
+    ∙ nothing-spelled c.args.limit is_packed (λ letters. length letters) (λ letters. letters) (numbers_in c.args.items.now)
+    (λ code is h. c.in_err-code.ensures code is (IsCode-packed code (all_letters code h.0) (omega (arith, h.1, c.requires))))
