@@ -1,0 +1,4 @@
+pub mod CodesOfTrees
+pub mod GreatestPlaces
+pub mod RootPlaces
+pub mod TreeParts
