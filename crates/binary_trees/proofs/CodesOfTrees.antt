@@ -1,9 +1,10 @@
 -- The codes of trees are codes.
-use Rattle.std.proofs.Common.{◌≡◌, ℕ, zero, suc, ◌+◌, ◌≤◌, Bool, true, false, List, [], ◌∷◌, ◌++◌, length, take, drop, refl, sym, ◌∙◌, ap, arith}
+use Rattle.std.proofs.Common.{◌≡◌, ℕ, zero, suc, ◌+◌, ◌≤◌, Bool, true, false, List, [], ◌∷◌, ◌++◌, length, take, drop, refl, sym, ◌∙◌, ap, subst, arith}
 use Rattle.std.specs.Prelude.{nat_le, ◌&&◌}
 use Rattle.std.proofs.lemmas.Bool.Decides.{nat_tests}
 use Rattle.std.proofs.lemmas.List.{length-append, append_assoc, take-append-drop}
 use Rattle.linear_combos.specs.Codes.{IsCode, all_letters}
+use Rattle.realisations.specs.IndexKinds.{IsTreeCode}
 use Rattle.realisations.specs.Trees.{Tree, empty, node, tree_size, tree_code}
 use Rattle.basis_representatives.proofs.TreeCodes.{length-tree_code}
 
@@ -79,3 +80,7 @@ letters-take n u h = letters-front (take n u) (drop n u) (ap all_letters (take-a
 -- a code and letters behind it, cut after the first letters
 pub code_to_cut : (u v : List ℕ) → IsCode (u ++ v) → IsCode u
 code_to_cut u v h = record { short = omega (arith, h.short, length-append u v); letters = letters-front u v h.letters }
+
+-- the same by the code
+pub code_of_tree_code : (code : List ℕ) → IsTreeCode code → length code ≤ 15 → IsCode code
+code_of_tree_code code (t, is) le = subst IsCode is (code_of_tree t (omega (arith, le, length-tree_code t, ap (λ (c : List ℕ). length c) is)))

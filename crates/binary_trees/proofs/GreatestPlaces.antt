@@ -7,7 +7,7 @@ use Rattle.std.proofs.Math.Seq.{drop-cons}
 use Rattle.realisations.specs.Trees.{Tree, node, tree_size, decreasing_tree}
 use Rattle.basis_representatives.proofs.TreeCodes.{code-decreasing_tree, decreasing_code-node, length-decreasing_code, length-tree_code, tree_code_injective}
 use Rattle.realisations.proofs.RisingMaps.{Letters}
-use Rattle.binary_trees.specs.Shapes.{IsLastGreatest}
+use Rattle.binary_trees.specs.Places.{IsLastGreatest}
 
 -- the last greatest letter up to a place
 pub record IsBestBefore (w : List ℕ) (at best : ℕ) : Type 0 where

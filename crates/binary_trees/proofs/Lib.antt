@@ -1,4 +1,6 @@
 pub mod CodesOfTrees
 pub mod GreatestPlaces
+pub mod GrownTrees
+pub mod ProductCodes
 pub mod RootPlaces
 pub mod TreeParts

@@ -1,2 +1,3 @@
+pub mod Places
 pub mod Shapes
 pub mod Sizes

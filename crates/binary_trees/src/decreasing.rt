@@ -1,7 +1,8 @@
 //! Decreasing trees of words.
 ghost use Rattle.std.specs.Prelude.{◌≡◌, ◌≤◌, length, IfOk};
 ghost use Rattle.realisations.specs.Trees.{decreasing_tree};
-ghost use Rattle.binary_trees.specs.Shapes.{IsLastGreatest, shape_of};
+ghost use Rattle.binary_trees.specs.Places.{IsLastGreatest};
+ghost use Rattle.binary_trees.specs.Shapes.{shape_of};
 
 use crate::tree::{Tree, join};
 use hopf_num::OutOfMemory;

@@ -3,7 +3,11 @@
 
 mod codes;
 mod decreasing;
+mod listing;
+mod products;
 mod tree;
 
 pub use decreasing::decreasing_shape;
+pub use listing::list;
+pub use products::over;
 pub use tree::Tree;

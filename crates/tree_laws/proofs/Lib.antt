@@ -1,1 +1,2 @@
+pub mod FirstNodes
 pub mod ProductTrees

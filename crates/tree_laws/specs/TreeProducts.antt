@@ -1,6 +1,7 @@
 -- The product of two binary trees (Loday, Ronco 1998).
 use Rattle.std.specs.Prelude.{◌≡◌, ◌⊎◌}
-use Rattle.realisations.specs.Trees.{Tree, empty, node}
+use Rattle.realisations.specs.Trees.{Tree, empty, node, tree_code}
+use Rattle.realisations.specs.Codes.{Code}
 
 -- the third tree is one of the product of the first two: the empty tree is the unit, and the product of T = [A, B] and U = [C, D] has the nodes [A, X] with X of the product of B and U, and the nodes [Y, D] with Y of the product of T and C
 abbrev pub IsInProduct : Tree → Tree → Tree → Type 0
@@ -8,3 +9,7 @@ IsInProduct empty u v = v ≡ u
 IsInProduct (node a b) empty v = v ≡ node a b
 IsInProduct (node a b) (node c d) empty = ⊥
 IsInProduct (node a b) (node c d) (node l r) = ((l ≡ a) × IsInProduct b (node c d) r) ⊎ ((r ≡ d) × IsInProduct (node a b) c l)
+
+-- the code of a tree of the product
+abbrev pub IsProductCode : Tree → Tree → Code → Type 0
+IsProductCode left right code = (tree : Tree) × IsInProduct left right tree × (tree_code tree ≡ code)

@@ -1,3 +1,4 @@
+use Rattle.tree_laws.proofs.FirstNodes.{has_first}
 use Rattle.tree_laws.proofs.ProductTrees.{size_in_product}
 use Rattle.tree_laws.proofs.laws.product_size_law.Goals as goal
 
