@@ -5,9 +5,11 @@ mod codes;
 mod decreasing;
 mod listing;
 mod products;
+mod searching;
 mod tree;
 
 pub use decreasing::decreasing_shape;
 pub use listing::list;
 pub use products::over;
+pub use searching::sylvester_insert;
 pub use tree::Tree;
