@@ -4,3 +4,4 @@ pub mod GrownTrees
 pub mod ProductCodes
 pub mod RootPlaces
 pub mod TreeParts
+pub mod UpperPairs

@@ -1,17 +1,17 @@
 -- Letters before, the codes of two trees, and letters after: the codes of the trees of their product between these letters.
 use Rattle.std.proofs.Common.{◌≡◌, ℕ, suc, ◌+◌, ◌-◌, ◌<◌, ◌≤◌, true, List, [], ◌∷◌, ◌++◌, length, take, drop, refl, sym, ◌∙◌, ap, subst, arith}
-use Rattle.std.proofs.lemmas.List.{append-nil, append_assoc, length-append, length-drop, length-take-le}
+use Rattle.std.proofs.lemmas.List.{append_assoc, length-append, length-drop, length-take-le}
 use Rattle.std.proofs.Math.Seq.{drop-append_seam}
 use Rattle.realisations.specs.Codes.{Code}
 use Rattle.realisations.specs.IndexKinds.{IsTreeCode}
-use Rattle.realisations.specs.Trees.{Tree, empty, node, tree_code, tree_size, before_root, after_root}
-use Rattle.basis_representatives.proofs.TreeCodes.{length-tree_code, tree_code_injective}
+use Rattle.realisations.specs.Trees.{Tree, empty, node, tree_code, tree_of, tree_size, before_root, after_root}
+use Rattle.basis_representatives.proofs.TreeCodes.{length-tree_code}
+use Rattle.basis_representatives.proofs.TreesOfCodes.{tree_of-code}
 use Rattle.linear_combos.specs.Codes.{IsCode, all_letters}
-use Rattle.tree_laws.specs.TreeProducts.{IsInProduct, IsProductCode}
-use Rattle.tree_laws.proofs.ProductTrees.{IsBetween, adds_halves}
+use Rattle.tree_laws.specs.TreeProducts.{IsProductCode, tree_products}
+use Rattle.tree_laws.proofs.ProductTrees.{between, between-alone, both_codes, lists_products}
 use Rattle.word_laws.specs.AddedCodes.{AddsEach}
-use Rattle.word_laws.proofs.AddedCodes.{adds_one, adds_same}
-use Rattle.binary_trees.specs.Places.{AreParts, IsProductBetween}
+use Rattle.binary_trees.specs.Places.{AreParts, products_between}
 use Rattle.binary_trees.proofs.CodesOfTrees.{code_of_tree_code, letters-append, letters-cons, letters-drop, letters-take}
 use Rattle.binary_trees.proofs.TreeParts.{after_root-node, before_root-node, none_left}
 
@@ -42,51 +42,34 @@ from_root code at n lt =
     let size : length (tree_code n.left) ≡ at = ap (λ (c : Code). length c) n.front ∙ length-take-le at code (omega (arith, lt)) in
     (λ i. drop (sym size i) (sym n.whole i)) ∙ drop-append_seam (tree_code n.left) (suc (tree_size n.right) ∷ tree_code n.right)
 
-module _ (t u : Tree) (front ct cu rest : Code) (et : tree_code t ≡ ct) (eu : tree_code u ≡ cu) where
-  between_to : (w : Code) → IsBetween t u front rest w → IsProductBetween front ct cu rest w
-  between_to w (v, h, e) = record { left = t; right = u; tree = v; left_code = et; right_code = eu; product = h; whole = e }
+-- the tree of the code of a tree
+tree_is : (t : Tree) (code : Code) → tree_code t ≡ code → tree_of code ≡ t
+tree_is t code e = ap tree_of (sym e) ∙ tree_of-code t
 
-  between_from : (w : Code) → IsProductBetween front ct cu rest w → IsBetween t u front rest w
-  between_from w p = (
-    p.tree,
-    subst (λ x. IsInProduct x u p.tree) (tree_code_injective p.left t (p.left_code ∙ sym et))
-        (subst (λ y. IsInProduct p.left y p.tree) (tree_code_injective p.right u (p.right_code ∙ sym eu)) p.product),
-    p.whole,
-  )
-
-  -- the same by trees and by codes
-  by_codes : (old new : List Code) → AddsEach (IsBetween t u front rest) old new → AddsEach (IsProductBetween front ct cu rest) old new
-  by_codes old new adds = adds_same (IsBetween t u front rest) (IsProductBetween front ct cu rest) old new between_to between_from adds
-
-  by_trees : (old new : List Code) → AddsEach (IsProductBetween front ct cu rest) old new → AddsEach (IsBetween t u front rest) old new
-  by_trees old new adds = adds_same (IsProductBetween front ct cu rest) (IsBetween t u front rest) old new between_from between_to adds
-
-  -- the product has one tree
-  only_tree : (v : Tree) (new : Code) (old : List Code) → IsInProduct t u v → ((x : Tree) → IsInProduct t u x → x ≡ v) → new ≡ front ++ (tree_code v ++ rest) → AddsEach (IsProductBetween front ct cu rest) old (old ++ new ∷ [])
-  only_tree v new old h only is =
-      by_codes old (old ++ new ∷ [])
-      (adds_one (IsBetween t u front rest) new old (v, h, is) (λ w p. p.2 ∙ ap (λ (x : Tree). front ++ (tree_code x ++ rest)) (only p.0 p.1) ∙ sym is))
+-- the same by trees and by codes
+pub products_are : (t u : Tree) (front ct cu rest : Code) → tree_code t ≡ ct → tree_code u ≡ cu → products_between front ct cu rest ≡ between front rest (tree_products t u)
+products_are t u front ct cu rest et eu = λ i. between front rest (tree_products (tree_is t ct et i) (tree_is u cu eu i))
 
 -- the empty tree and another
-pub adds_second : (front t u rest joined new : Code) (old : List Code) → AreParts front t u rest → before_root t ≡ t → joined ≡ front ++ u → new ≡ joined ++ rest → AddsEach (IsProductBetween front t u rest) old (old ++ new ∷ [])
-adds_second front t u rest joined new old h none ej en = by_tree h.second
+pub adds_second : (front t u rest joined new : Code) (old out : List Code) → AreParts front t u rest → before_root t ≡ t → joined ≡ front ++ u → new ≡ joined ++ rest → out ≡ old ++ new ∷ [] → out ≡ old ++ products_between front t u rest
+adds_second front t u rest joined new old out h none ej en eo = by_tree h.second
   where
-    by_tree : IsTreeCode u → AddsEach (IsProductBetween front t u rest) old (old ++ new ∷ [])
+    by_tree : IsTreeCode u → out ≡ old ++ products_between front t u rest
     by_tree (v, is) =
-        only_tree empty v front t u rest (none_left t h.first none) is v new old refl (λ x e. e)
-        (en ∙ ap (λ w. w ++ rest) ej ∙ append_assoc front u rest ∙ ap (λ w. front ++ (w ++ rest)) (sym is))
+        let code : new ≡ front ++ (tree_code v ++ rest) = en ∙ ap (λ w. w ++ rest) ej ∙ append_assoc front u rest ∙ ap (λ w. front ++ (w ++ rest)) (sym is) in
+        eo ∙ (λ i. old ++ (code i ∷ [])) ∙ ap (λ ws. old ++ ws) (sym (products_are empty v front t u rest (none_left t h.first none) is))
 
 -- a tree and the empty one
-pub adds_first : (front t u rest joined new : Code) (old : List Code) → AreParts front t u rest → 1 ≤ length t → before_root u ≡ u → joined ≡ front ++ t → new ≡ joined ++ rest → AddsEach (IsProductBetween front t u rest) old (old ++ new ∷ [])
-adds_first front t u rest joined new old h some none ej en = by_tree h.first
+pub adds_first : (front t u rest joined new : Code) (old out : List Code) → AreParts front t u rest → 1 ≤ length t → before_root u ≡ u → joined ≡ front ++ t → new ≡ joined ++ rest → out ≡ old ++ new ∷ [] → out ≡ old ++ products_between front t u rest
+adds_first front t u rest joined new old out h some none ej en eo = by_tree h.first
   where
-    by_node : (v : Tree) → tree_code v ≡ t → AddsEach (IsProductBetween front t u rest) old (old ++ new ∷ [])
+    by_node : (v : Tree) → tree_code v ≡ t → out ≡ old ++ products_between front t u rest
     by_node empty is = absurd (omega (arith, some, ap (λ (c : Code). length c) is))
     by_node (node a b) is =
-        only_tree (node a b) empty front t u rest is (none_left u h.second none) (node a b) new old refl (λ x e. e)
-        (en ∙ ap (λ w. w ++ rest) ej ∙ append_assoc front t rest ∙ ap (λ w. front ++ (w ++ rest)) (sym is))
+        let code : new ≡ front ++ (tree_code (node a b) ++ rest) = en ∙ ap (λ w. w ++ rest) ej ∙ append_assoc front t rest ∙ ap (λ w. front ++ (w ++ rest)) (sym is) in
+        eo ∙ (λ i. old ++ (code i ∷ [])) ∙ ap (λ ws. old ++ ws) (sym (products_are (node a b) empty front t u rest is (none_left u h.second none)))
 
-    by_tree : IsTreeCode t → AddsEach (IsProductBetween front t u rest) old (old ++ new ∷ [])
+    by_tree : IsTreeCode t → out ≡ old ++ products_between front t u rest
     by_tree (v, is) = by_node v is
 
 letters_first : (front t u rest : Code) → AreParts front t u rest → all_letters t ≡ true
@@ -178,15 +161,17 @@ module _ (front t u rest : Code) (i j : ℕ) (h : AreParts front t u rest)
   pub adds_both : (left tail back head joined start right : Code) (n : ℕ) (old mid new : List Code)
       → left ≡ take j u → tail ≡ drop j u → back ≡ tail ++ rest
       → head ≡ take i t → joined ≡ front ++ head → n ≡ length t - i + length u → start ≡ joined ++ (n ∷ []) → right ≡ drop (suc i) t
-      → AddsEach (IsProductBetween front t left back) old mid → AddsEach (IsProductBetween start right u rest) mid new
-      → AddsEach (IsProductBetween front t u rest) old new
+      → mid ≡ old ++ products_between front t left back → new ≡ mid ++ products_between start right u rest
+      → new ≡ old ++ products_between front t u rest
   adds_both left tail back head joined start right n old mid new el et eb eh ej en es er first second =
-      by_codes (node nt.left nt.right) (node nu.left nu.right) front t u rest nt.whole nu.whole old new
-      (adds_halves nt.left nt.right nu.left nu.right front rest old mid new
-      (by_trees (node nt.left nt.right) nu.left front t left ((suc (tree_size nu.right) ∷ tree_code nu.right) ++ rest) nt.whole (nu.front ∙ sym el) old mid
-      (subst (λ w. AddsEach (IsProductBetween front t left w) old mid) back_is first))
-      (by_trees nt.right (node nu.left nu.right) (front ++ (tree_code nt.left ++ (suc (tree_size nt.right + tree_size (node nu.left nu.right)) ∷ []))) right u rest (nt.back ∙ sym er) nu.whole mid new
-      (subst (λ w. AddsEach (IsProductBetween w right u rest) mid new) start_is second)))
+      let ys = between front ((suc (tree_size nu.right) ∷ tree_code nu.right) ++ rest) (tree_products (node nt.left nt.right) nu.left) in
+      let xs = between (front ++ (tree_code nt.left ++ (suc (tree_size nt.right + tree_size (node nu.left nu.right)) ∷ []))) rest (tree_products nt.right (node nu.left nu.right)) in
+      let first_is : products_between front t left back ≡ ys =
+      ap (λ w. products_between front t left w) back_is ∙ products_are (node nt.left nt.right) nu.left front t left ((suc (tree_size nu.right) ∷ tree_code nu.right) ++ rest) nt.whole (nu.front ∙ sym el) in
+      let second_is : products_between start right u rest ≡ xs =
+      ap (λ w. products_between w right u rest) start_is ∙ products_are nt.right (node nu.left nu.right) (front ++ (tree_code nt.left ++ (suc (tree_size nt.right + tree_size (node nu.left nu.right)) ∷ []))) right u rest (nt.back ∙ sym er) nu.whole in
+      second ∙ (λ k. (first ∙ ap (λ ws. old ++ ws) first_is) k ++ second_is k) ∙ append_assoc old ys xs
+      ∙ ap (λ ws. old ++ ws) (sym (both_codes nt.left nt.right nu.left nu.right front rest) ∙ sym (products_are (node nt.left nt.right) (node nu.left nu.right) front t u rest nt.whole nu.whole))
     where
       back_is : back ≡ (suc (tree_size nu.right) ∷ tree_code nu.right) ++ rest
       back_is = eb ∙ ap (λ w. w ++ rest) (et ∙ from_root u j nu lj)
@@ -208,13 +193,8 @@ start_parts t u none first second le en et eu = record {
 }
 
 -- so the codes are those of the product
-pub product_codes : (t u : Tree) (none first second : Code) (old new : List Code) → none ≡ [] → first ≡ tree_code t → second ≡ tree_code u → old ≡ [] → AddsEach (IsProductBetween none first second none) old new → AddsEach (IsProductCode t u) [] new
-product_codes t u none first second old new en et eu eo adds =
-    subst (λ (ws : List Code). AddsEach (IsProductCode t u) ws new) eo
-    (adds_same (IsBetween t u none none) (IsProductCode t u) old new
-    (λ w p. (p.0, p.1, sym (p.2 ∙ alone p.0)))
-    (λ w p. (p.0, p.1, sym p.2 ∙ sym (alone p.0)))
-    (by_trees t u none first second none (sym et) (sym eu) old new adds))
-  where
-    alone : (v : Tree) → none ++ (tree_code v ++ none) ≡ tree_code v
-    alone v = (λ i. en i ++ (tree_code v ++ en i)) ∙ append-nil (tree_code v)
+pub product_codes : (t u : Tree) (none first second : Code) (old new : List Code) → none ≡ [] → first ≡ tree_code t → second ≡ tree_code u → old ≡ [] → new ≡ old ++ products_between none first second none → AddsEach (IsProductCode t u) [] new
+product_codes t u none first second old new en et eu eo is =
+    subst (λ (ws : List Code). AddsEach (IsProductCode t u) [] ws)
+    (sym (is ∙ (λ i. eo i ++ products_between (en i) first second (en i)) ∙ products_are t u [] first second [] (sym et) (sym eu) ∙ between-alone (tree_products t u)))
+    (lists_products t u)

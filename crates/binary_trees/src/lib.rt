@@ -7,6 +7,7 @@ mod listing;
 mod products;
 mod searching;
 mod tree;
+mod upper_parts;
 
 pub use decreasing::decreasing_shape;
 pub use listing::list;

@@ -1,10 +1,9 @@
 //! The product of two trees.
-ghost use Rattle.std.specs.Prelude.{◌≡◌, ◌≤◌, ◌+◌, OnOk, IfOk};
+ghost use Rattle.std.specs.Prelude.{◌≡◌, ◌≤◌, ◌+◌, ◌++◌, OnOk, IfOk};
 ghost use Rattle.realisations.specs.Trees.{tree_size};
 ghost use Rattle.linear_combos.specs.CodeLists.{ListsEach};
 ghost use Rattle.tree_laws.specs.TreeProducts.{IsProductCode};
-ghost use Rattle.word_laws.specs.AddedCodes.{AddsEach};
-ghost use Rattle.binary_trees.specs.Places.{AreParts, IsProductBetween};
+ghost use Rattle.binary_trees.specs.Places.{AreParts, products_between};
 ghost use Rattle.binary_trees.specs.Shapes.{shape_of};
 
 use crate::Tree;
@@ -24,7 +23,7 @@ pub(crate) fn push_products(
     rest: &Code,
 ) -> Result<(), OutOfMemory>
     requires { AreParts front.now t.now u.now rest.now }
-    ensures { OnOk result (AddsEach (IsProductBetween front.now t.now u.now rest.now) out.old out.new) }
+    ensures { OnOk result (out.new ≡ out.old ++ products_between front.now t.now u.now rest.now) }
 {
     match root_place(t) {
         None => out.push(front.followed_by(u).followed_by(rest)),

@@ -1,12 +1,14 @@
 -- The trees of a product: their sizes, and their codes by the two kinds of roots, each once.
-use Rattle.std.proofs.Common.{◌≡◌, ◌⊎◌, ℕ, suc, ◌+◌, List, [], ◌∷◌, ◌++◌, length, refl, sym, ◌∙◌, ap, arith, inl, inr}
-use Rattle.std.proofs.lemmas.List.{append_assoc}
+use Rattle.std.proofs.Common.{◌≡◌, ◌⊎◌, ℕ, suc, ◌+◌, List, [], ◌∷◌, ◌++◌, length, map, refl, sym, ◌∙◌, ap, subst, arith, inl, inr}
+use Rattle.std.specs.List.{AllByRecursion}
+use Rattle.std.proofs.lemmas.List.{append-nil, append_assoc}
+use Rattle.realisations.proofs.Every.{every-append, every-map}
 use Rattle.realisations.specs.Codes.{Code}
 use Rattle.realisations.specs.Trees.{Tree, empty, node, tree_code, tree_size}
 use Rattle.basis_representatives.proofs.TreeCodes.{length-tree_code, tree_code_injective}
 use Rattle.word_laws.specs.AddedCodes.{AddsEach}
-use Rattle.word_laws.proofs.AddedCodes.{adds_either, adds_same}
-use Rattle.tree_laws.specs.TreeProducts.{IsInProduct}
+use Rattle.word_laws.proofs.AddedCodes.{adds_either, adds_one, adds_same}
+use Rattle.tree_laws.specs.TreeProducts.{IsInProduct, IsProductCode, tree_products}
 
 -- a tree of a product has the nodes of both
 pub size_in_product : (t u v : Tree) → IsInProduct t u v → tree_size v ≡ tree_size t + tree_size u
@@ -78,3 +80,66 @@ module _ (a b c d : Tree) (front rest : List ℕ) where
   adds_halves old mid new first second =
       adds_same (λ w. first_half w ⊎ second_half w) (IsBetween (node a b) (node c d) front rest) old new halves in_halves
       (adds_either first_half second_half old mid new halves_apart first second)
+
+-- the codes of some trees, each between letters before and after
+abbrev pub between : List ℕ → List ℕ → List Tree → List Code
+between front rest ts = map (λ v. front ++ (tree_code v ++ rest)) ts
+
+-- each tree of the list has the nodes of both
+pub sizes_of_products : (t u : Tree) → AllByRecursion (λ v. tree_size v ≡ tree_size t + tree_size u) (tree_products t u)
+sizes_of_products empty u = (omega arith, tt)
+sizes_of_products (node a b) empty = (omega arith, tt)
+sizes_of_products (node a b) (node c d) =
+    every-append (λ v. tree_size v ≡ tree_size (node a b) + tree_size (node c d)) (map (λ y. node y d) (tree_products (node a b) c)) (map (λ x. node a x) (tree_products b (node c d)))
+    (every-map (λ v. tree_size v ≡ tree_size (node a b) + tree_size c) (λ v. tree_size v ≡ tree_size (node a b) + tree_size (node c d)) (λ y. node y d) (λ y h. omega (arith, h)) (tree_products (node a b) c) (sizes_of_products (node a b) c))
+    (every-map (λ v. tree_size v ≡ tree_size b + tree_size (node c d)) (λ v. tree_size v ≡ tree_size (node a b) + tree_size (node c d)) (λ x. node a x) (λ x h. omega (arith, h)) (tree_products b (node c d)) (sizes_of_products b (node c d)))
+
+between-append : (front rest : List ℕ) (ts us : List Tree) → between front rest (ts ++ us) ≡ between front rest ts ++ between front rest us
+between-append front rest [] us = refl
+between-append front rest (t ∷ ts) us = ap (λ cs. (front ++ (tree_code t ++ rest)) ∷ cs) (between-append front rest ts us)
+
+module _ (a b c d : Tree) (front rest : List ℕ) where
+  first_codes : (ts : List Tree) → between front rest (map (λ y. node y d) ts) ≡ between front ((suc (tree_size d) ∷ tree_code d) ++ rest) ts
+  first_codes [] = refl
+  first_codes (y ∷ ts) = λ i. sym (root_after a b c d front rest y) i ∷ first_codes ts i
+
+  second_codes : (ts : List Tree) → AllByRecursion (λ v. tree_size v ≡ tree_size b + tree_size (node c d)) ts
+      → between front rest (map (λ x. node a x) ts) ≡ between (front ++ (tree_code a ++ (suc (tree_size b + tree_size (node c d)) ∷ []))) rest ts
+  second_codes [] h = refl
+  second_codes (x ∷ ts) h = λ i. sym (root_before a b c d front rest x h.0) i ∷ second_codes ts h.1 i
+
+  -- the codes of both kinds of roots
+  pub both_codes : between front rest (tree_products (node a b) (node c d))
+      ≡ between front ((suc (tree_size d) ∷ tree_code d) ++ rest) (tree_products (node a b) c)
+      ++ between (front ++ (tree_code a ++ (suc (tree_size b + tree_size (node c d)) ∷ []))) rest (tree_products b (node c d))
+  both_codes =
+      between-append front rest (map (λ y. node y d) (tree_products (node a b) c)) (map (λ x. node a x) (tree_products b (node c d)))
+      ∙ (λ i. first_codes (tree_products (node a b) c) i ++ second_codes (tree_products b (node c d)) (sizes_of_products b (node c d)) i)
+
+-- the listed trees are those of the product, each once
+pub adds_products : (t u : Tree) (front rest : List ℕ) (old : List Code) → AddsEach (IsBetween t u front rest) old (old ++ between front rest (tree_products t u))
+adds_products empty u front rest old = adds_one (IsBetween empty u front rest) (front ++ (tree_code u ++ rest)) old (u, refl, refl) (λ w p. p.2 ∙ ap (λ (v : Tree). front ++ (tree_code v ++ rest)) p.1)
+adds_products (node a b) empty front rest old =
+    adds_one (IsBetween (node a b) empty front rest) (front ++ (tree_code (node a b) ++ rest)) old (node a b, refl, refl) (λ w p. p.2 ∙ ap (λ (v : Tree). front ++ (tree_code v ++ rest)) p.1)
+adds_products (node a b) (node c d) front rest old =
+    let tail = (suc (tree_size d) ∷ tree_code d) ++ rest in
+    let head = front ++ (tree_code a ++ (suc (tree_size b + tree_size (node c d)) ∷ [])) in
+    let first = between front tail (tree_products (node a b) c) in
+    let second = between head rest (tree_products b (node c d)) in
+    subst (λ (ws : List Code). AddsEach (IsBetween (node a b) (node c d) front rest) old ws)
+    (append_assoc old first second ∙ ap (λ ws. old ++ ws) (sym (both_codes a b c d front rest)))
+    (adds_halves a b c d front rest old (old ++ first) ((old ++ first) ++ second)
+    (adds_products (node a b) c front tail old) (adds_products b (node c d) head rest (old ++ first)))
+
+pub between-alone : (ts : List Tree) → between [] [] ts ≡ map tree_code ts
+between-alone [] = refl
+between-alone (t ∷ ts) = λ i. append-nil (tree_code t) i ∷ between-alone ts i
+
+-- so are their codes
+pub lists_products : (t u : Tree) → AddsEach (IsProductCode t u) [] (map tree_code (tree_products t u))
+lists_products t u =
+    subst (λ (ws : List Code). AddsEach (IsProductCode t u) [] ws) (between-alone (tree_products t u))
+    (adds_same (IsBetween t u [] []) (IsProductCode t u) [] (between [] [] (tree_products t u))
+    (λ w p. (p.0, p.1, sym (p.2 ∙ append-nil (tree_code p.0))))
+    (λ w p. (p.0, p.1, sym p.2 ∙ sym (append-nil (tree_code p.0))))
+    (adds_products t u [] [] []))

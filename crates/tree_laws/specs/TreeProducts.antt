@@ -1,5 +1,5 @@
 -- The product of two binary trees (Loday, Ronco 1998).
-use Rattle.std.specs.Prelude.{◌≡◌, ◌⊎◌}
+use Rattle.std.specs.Prelude.{◌≡◌, ◌⊎◌, List, [], ◌∷◌, ◌++◌, map}
 use Rattle.realisations.specs.Trees.{Tree, empty, node, tree_code}
 use Rattle.realisations.specs.Codes.{Code}
 
@@ -13,3 +13,9 @@ IsInProduct (node a b) (node c d) (node l r) = ((l ≡ a) × IsInProduct b (node
 -- the code of a tree of the product
 abbrev pub IsProductCode : Tree → Tree → Code → Type 0
 IsProductCode left right code = (tree : Tree) × IsInProduct left right tree × (tree_code tree ≡ code)
+
+-- the trees of the product, each once, in the canonical order of their codes: the nodes [Y, D], and then the nodes [A, X]
+abbrev pub tree_products : Tree → Tree → List Tree
+tree_products empty u = u ∷ []
+tree_products (node a b) empty = node a b ∷ []
+tree_products (node a b) (node c d) = map (λ y. node y d) (tree_products (node a b) c) ++ map (λ x. node a x) (tree_products b (node c d))

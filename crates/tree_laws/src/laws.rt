@@ -8,7 +8,8 @@ pub fn code_law()
     ensures { CodeLaw }
 {}
 
-/// The trees of a product have the nodes of both factors (Loday, Ronco 1998).
+/// The trees of a product have the nodes of both factors, and each of them is listed once (Loday, Ronco
+/// 1998).
 ///
 /// Nothing is computed: callers cite the clause.
 pub fn product_law()

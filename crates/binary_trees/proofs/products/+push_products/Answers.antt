@@ -1,8 +1,6 @@
-use Rattle.std.proofs.Common.{rules, ◌≡◌, ◌<◌, ◌∷◌, ◌++◌, [], suc, length, ap, subst, sym, arith}
+use Rattle.std.proofs.Common.{rules, ◌<◌, suc, length, ap, arith}
 use Rattle.std.proofs.lemmas.List.{length-drop, length-take-le}
 use Rattle.std.proofs.lemmas.Result.{on_ok_weaker}
-use Rattle.word_laws.specs.AddedCodes.{AddsEach}
-use Rattle.binary_trees.specs.Places.{IsProductBetween}
 use Rattle.binary_trees.proofs.RootPlaces.{after_letter}
 use Rattle.binary_trees.proofs.ProductCodes.{adds_both, adds_first, adds_second, left_parts, right_parts, with_first, with_second}
 use Rattle.binary_trees.proofs.products.+push_products.Goals as goal
@@ -37,23 +35,15 @@ push_products-requires-in-Some-root_place t c =
 
 pub returns-in-None : goal.returns-in-None
 returns-in-None t c =
-    on_ok_weaker
-    {P = c.push.new.self ≡ c.args.out.now ++ c.followed_by-in-None.result ∷ []}
-    {Q = AddsEach (IsProductBetween c.args.front.now c.args.t.now c.args.u.now c.args.rest.now) c.args.out.now c.push.new.self}
-    c.push.result
-    (λ h. subst (AddsEach (IsProductBetween c.args.front.now c.args.t.now c.args.u.now c.args.rest.now) c.args.out.now) (sym h)
-    (adds_second c.args.front.now c.args.t.now c.args.u.now c.args.rest.now c.followed_by.result c.followed_by-in-None.result c.args.out.now c.requires c.in-None.ensures c.followed_by.ensures c.followed_by-in-None.ensures))
+    on_ok_weaker _
+    (λ h. adds_second c.args.front.now c.args.t.now c.args.u.now c.args.rest.now c.followed_by.result c.followed_by-in-None.result c.args.out.now c.push.new.self c.requires c.in-None.ensures c.followed_by.ensures c.followed_by-in-None.ensures h)
     c.push.ensures.ok
 
 pub returns-in-None-root_place : goal.returns-in-None-root_place
 returns-in-None-root_place t c =
-    on_ok_weaker
-    {P = c.push-in-None-root_place.new.self ≡ c.args.out.now ++ c.followed_by-in-None-root_place-2.result ∷ []}
-    {Q = AddsEach (IsProductBetween c.args.front.now c.args.t.now c.args.u.now c.args.rest.now) c.args.out.now c.push-in-None-root_place.new.self}
-    c.push-in-None-root_place.result
-    (λ h. subst (AddsEach (IsProductBetween c.args.front.now c.args.t.now c.args.u.now c.args.rest.now) c.args.out.now) (sym h)
-    (adds_first c.args.front.now c.args.t.now c.args.u.now c.args.rest.now c.followed_by-in-None-root_place.result c.followed_by-in-None-root_place-2.result c.args.out.now c.requires (omega (arith, c.in-Some.ensures.0)) c.in-None-root_place.ensures
-    c.followed_by-in-None-root_place.ensures c.followed_by-in-None-root_place-2.ensures))
+    on_ok_weaker _
+    (λ h. adds_first c.args.front.now c.args.t.now c.args.u.now c.args.rest.now c.followed_by-in-None-root_place.result c.followed_by-in-None-root_place-2.result c.args.out.now c.push-in-None-root_place.new.self c.requires (omega (arith, c.in-Some.ensures.0)) c.in-None-root_place.ensures
+    c.followed_by-in-None-root_place.ensures c.followed_by-in-None-root_place-2.ensures h)
     c.push-in-None-root_place.ensures.ok
 
 pub returns-in_ok-push_products-in-Some-root_place : goal.returns-in_ok-push_products-in-Some-root_place
