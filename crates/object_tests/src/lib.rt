@@ -2,6 +2,8 @@
 #![tactic(auto)]
 
 #[cfg(test)]
+mod binary_trees_by_code;
+#[cfg(test)]
 mod code_lists;
 #[cfg(test)]
 mod packed_lists;

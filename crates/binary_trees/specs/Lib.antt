@@ -1,0 +1,4 @@
+pub mod PairSums
+pub mod Places
+pub mod Shapes
+pub mod Sizes

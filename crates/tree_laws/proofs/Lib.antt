@@ -1,0 +1,3 @@
+pub mod FirstNodes
+pub mod ProductTrees
+pub mod SearchTrees

@@ -1,0 +1,4 @@
+pub mod Laws
+pub mod SearchTrees
+pub mod TreeProducts
+pub mod UpperParts
