@@ -14,7 +14,7 @@ use Rattle.product_laws.specs.Classes.{splits_into}
 use Rattle.product_laws.specs.Laws.{TreeRootsLaw}
 use Rattle.product_laws.specs.Products.{IsProductRule}
 use Rattle.product_laws.specs.TreeCuts.{front_code, IsTreeProduct}
-use Rattle.product_laws.specs.TreeProducts.{IsCodeInProduct, IsInProduct}
+use Rattle.tree_laws.specs.TreeProducts.{IsInProduct, IsProductCode}
 use Rattle.product_laws.proofs.ClassRules.{both_same, same_both}
 use Rattle.product_laws.proofs.Tests.{same_tests}
 use Rattle.product_laws.proofs.TreeParts.{back_tree, back_tree-code, front_tree, front_tree-code, same_codes, same_tree, same_tree-is, same_tree-true, tree_size-front_tree}
@@ -253,10 +253,10 @@ lists_same P Q to from codes h = record {
   in_order = h.in_order;
 }
 
-rule_by_roots : (t u : Tree) (codes : List (List ℕ)) → tree_size t + tree_size u ≤ 32 → ListsEach (IsCodeInProduct t u) codes → IsProductRule PbtP (tree_code t) (tree_code u) codes
+rule_by_roots : (t u : Tree) (codes : List (List ℕ)) → tree_size t + tree_size u ≤ 32 → ListsEach (IsProductCode t u) codes → IsProductRule PbtP (tree_code t) (tree_code u) codes
 rule_by_roots t u codes small lists =
     tree_rule (tree_code t) (tree_code u) codes (omega (arith, small, length-tree_code t, length-tree_code u))
-    (lists_same (IsCodeInProduct t u) (IsTreeProduct (tree_code t) (tree_code u))
+    (lists_same (IsProductCode t u) (IsTreeProduct (tree_code t) (tree_code u))
     (λ code h. subst (IsTreeProduct (tree_code t) (tree_code u)) h.2 (cut t u h.0 h.1))
     (λ code h. let v : Tree = h.tree.0 in (v, rooted t u v (subst (IsTreeProduct (tree_code t) (tree_code u)) (sym h.tree.1) h), h.tree.1))
     codes lists)

@@ -27,7 +27,7 @@ use Rattle.product_laws.specs.Products.{IsProduct, IsProductRule, terms_of_codes
 use Rattle.product_laws.specs.Ribbons.{ribbon_products}
 use Rattle.product_laws.specs.TableauCuts.{back_tableau, IsTableauProduct}
 use Rattle.product_laws.specs.TreeCuts.{front_code, IsTreeProduct}
-use Rattle.product_laws.specs.TreeProducts.{IsCodeInProduct, IsInProduct}
+use Rattle.tree_laws.specs.TreeProducts.{IsInProduct, IsProductCode}
 
 -- over a class basis of words, codes that hold each index once where its front and its back are those of two factors, and else not, read as the product
 abbrev pub ClassLaw : Type 0
@@ -95,7 +95,7 @@ TreeLaw = (s t : Code) (codes : List Code) → length s + length t ≤ 32 → Li
 pub record TreeRootsLaw : Type 0 where
   pub cut : (t u v : Tree) → IsInProduct t u v → IsTreeProduct (tree_code t) (tree_code u) (tree_code v)
   pub rooted : (t u v : Tree) → IsTreeProduct (tree_code t) (tree_code u) (tree_code v) → IsInProduct t u v
-  pub rule : (t u : Tree) (codes : List Code) → tree_size t + tree_size u ≤ 32 → ListsEach (IsCodeInProduct t u) codes → IsProductRule PbtP (tree_code t) (tree_code u) codes
+  pub rule : (t u : Tree) (codes : List Code) → tree_size t + tree_size u ≤ 32 → ListsEach (IsProductCode t u) codes → IsProductRule PbtP (tree_code t) (tree_code u) codes
 
 -- a combination is the answer of the product of two elements
 abbrev pub IsProductAnswer : BasisId → Code → Code → Combination → Type 0

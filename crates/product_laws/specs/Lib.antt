@@ -6,4 +6,3 @@ pub mod Products
 pub mod Ribbons
 pub mod TableauCuts
 pub mod TreeCuts
-pub mod TreeProducts

@@ -11,5 +11,5 @@ IsInProduct (node a b) (node c d) empty = ⊥
 IsInProduct (node a b) (node c d) (node l r) = ((l ≡ a) × IsInProduct b (node c d) r) ⊎ ((r ≡ d) × IsInProduct (node a b) c l)
 
 -- the code of one of these
-abbrev pub IsCodeInProduct : Tree → Tree → Code → Type 0
-IsCodeInProduct t u code = (v : Tree) × IsInProduct t u v × (tree_code v ≡ code)
+abbrev pub IsProductCode : Tree → Tree → Code → Type 0
+IsProductCode t u code = (v : Tree) × IsInProduct t u v × (tree_code v ≡ code)
