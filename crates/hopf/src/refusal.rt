@@ -101,20 +101,14 @@ fn push_algebras(
 }
 
 // Appends that an element is not in an algebra, since it reads differently at two words.
-fn push_not_in(
-    alloc: Global,
-    algebra: AlgebraId,
-    u: Code,
-    v: Code,
-    out: &mut Bytes,
-) -> Result<(), OutOfMemory>
+fn push_not_in(algebra: AlgebraId, u: Code, v: Code, out: &mut Bytes) -> Result<(), OutOfMemory>
     ensures { OnOk result (out.new ≡ out.old ++ text_not_in algebra u v) }
 {
     push_both(b"not in ", algebra_name(algebra), out)?;
     out.push_all(b": ")?;
-    append_list(alloc, &u, out)?;
+    append_list(&u, out)?;
     out.push_all(b" and ")?;
-    append_list(alloc, &v, out)?;
+    append_list(&v, out)?;
     out.push_all(b" read differently")
 }
 
@@ -155,7 +149,7 @@ fn push_value(alloc: Global, refusal: Refusal, out: &mut Bytes) -> Result<(), Ou
             out.push_all(format!(in alloc; "degree {degree} is past {limit}")?.as_bytes())
         }
         Refusal::TooLarge(_) => out.push_all(b"coefficient room passed"),
-        Refusal::NotInSub { algebra, u, v } => push_not_in(alloc, algebra, u, v, out),
+        Refusal::NotInSub { algebra, u, v } => push_not_in(algebra, u, v, out),
         Refusal::Memory => out.push_all(b"out of memory"),
     }
 }

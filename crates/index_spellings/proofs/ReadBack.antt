@@ -1,8 +1,6 @@
 -- An index is read back from the items of its spelling, and what is spelled is an index.
-use Rattle.std.proofs.Common.{◌≡◌, ℕ, zero, suc, ◌+◌, ◌≤◌, true, List, [], ◌∷◌, ◌++◌, Option, Some, None, length, refl, sym, ◌∙◌, ap, subst, arith, append_assoc, append-nil}
-use Rattle.std.specs.Prelude.{IsTrue}
+use Rattle.std.proofs.Common.{◌≡◌, ℕ, zero, suc, ◌≤◌, true, List, [], ◌∷◌, ◌++◌, Some, length, refl, sym, ◌∙◌, ap, subst, arith, append_assoc, append-nil}
 use Rattle.std.specs.List.{concat, sum}
-use Rattle.basis_names.specs.declared.bases.BasisId.{BasisId}
 use Rattle.basis_names.specs.Bases.{algebra_of, limit_of}
 use Rattle.realisations.specs.Bases.{index_kind_of}
 use Rattle.realisations.specs.Codes.{Code}
@@ -17,8 +15,8 @@ use Rattle.session_tokens.specs.declared.lexeme.Lexeme.{Lexeme}
 use Rattle.session_tokens.specs.declared.lexeme.Lexeme.TheVariants as lex
 use Rattle.index_spellings.specs.Items.{after_list, before, before_first, new_row, node_over, numbers_in, only_list, read_by, row_in, rows_in, second_list, tree_in}
 use Rattle.index_spellings.specs.Indices.{all_positive, index_by}
-use Rattle.index_spellings.specs.Laws.{IsWithinLimit, SpellingLaw}
-use Rattle.index_spellings.specs.Spellings.{items_by, list_with, number_items, row_items, tree_items}
+use Rattle.index_spellings.specs.Laws.{SpellingLaw}
+use Rattle.index_spellings.specs.Spellings.{items_by, number_items, row_items, tree_items}
 use Rattle.index_spellings.proofs.Spellings.{code-spelled, composition-positive, positive-composition, spelled-passes}
 use Rattle.index_spellings.proofs.StandardRows.{length-tableau_code}
 

@@ -1,5 +1,5 @@
 -- Rows as they are read, one lexeme after another.
-use Rattle.std.proofs.Common.{◌≡◌, ℕ, suc, ◌+◌, ◌<◌, ◌≤◌, Bool, true, false, List, [], ◌∷◌, ◌++◌, Option, Some, None, length, get_or, take, drop, refl, sym, ◌∙◌, ap, subst, arith, append_assoc, append-nil, drop-cons, length-append}
+use Rattle.std.proofs.Common.{◌≡◌, ℕ, suc, ◌+◌, ◌<◌, ◌≤◌, Bool, true, false, List, [], ◌∷◌, ◌++◌, Option, Some, None, length, get_or, drop, refl, sym, ◌∙◌, ap, subst, arith, append_assoc, append-nil, drop-cons, length-append}
 use Rattle.std.specs.List.{AllByRecursion}
 use Rattle.linear_combos.specs.Codes.{IsCode}
 use Rattle.linear_combos.proofs.Letters.{letters_at_left, letters_from, letters_to}

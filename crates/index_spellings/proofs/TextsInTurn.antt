@@ -1,7 +1,6 @@
 -- Texts with commas between, as they are appended one by one.
-use Rattle.std.proofs.Common.{◌≡◌, ℕ, suc, ◌+◌, ◌-◌, ◌<◌, ◌≤◌, List, [], ◌∷◌, ◌++◌, map, length, get_or, take, drop, refl, sym, ◌∙◌, ap, arith, append_assoc, append-nil, take_all, drop-cons}
+use Rattle.std.proofs.Common.{◌≡◌, ℕ, suc, ◌+◌, ◌<◌, ◌≤◌, List, [], ◌∷◌, ◌++◌, length, get_or, drop, sym, ◌∙◌, ap, arith, append_assoc, append-nil, drop-cons}
 use Rattle.std.specs.Prelude.{codes}
-use Rattle.std.specs.Fmt.{decimal}
 use Rattle.std.proofs.Math.ListN.{drop_of_length-le}
 use Rattle.index_spellings.specs.Texts.{comma_separated}
 
@@ -15,17 +14,6 @@ comma_separated-cons a [] = sym (append-nil a)
 comma_separated-cons a (b ∷ texts) =
     append_assoc a (codes ",") (comma_separated (b ∷ texts))
     ∙ ap (λ text. a ++ (codes "," ++ text)) (comma_separated-cons b texts)
-
--- the first number is printed, and the later ones are left
-pub first_number : (before out ns : List ℕ) → 1 ≤ length ns → out ≡ before ++ decimal (get_or ns 0 0)
-    → out ++ later_texts (map decimal (take (length ns - 1) (drop 1 ns))) ≡ before ++ comma_separated (map decimal ns)
-first_number before out [] le h = absurd (omega arith)
-first_number before out (a ∷ ns) le h =
-    let later : take (length (a ∷ ns) - 1) ns ≡ ns = take_all _ ns (omega arith) in
-    ap (λ text. text ++ later_texts (map decimal (take (length (a ∷ ns) - 1) ns))) h
-    ∙ append_assoc before (decimal a) (later_texts (map decimal (take (length (a ∷ ns) - 1) ns)))
-    ∙ ap (λ rest. before ++ (decimal a ++ later_texts (map decimal rest))) later
-    ∙ ap (λ text. before ++ text) (sym (comma_separated-cons (decimal a) (map decimal ns)))
 
 -- the first text is printed
 pub first_text : (texts : List (List ℕ)) (before out x : List ℕ) → 0 < length texts → x ≡ get_or texts 0 [] → out ≡ before ++ x

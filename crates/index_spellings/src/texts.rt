@@ -11,37 +11,55 @@ use hopf_io::Bytes;
 use hopf_num::OutOfMemory;
 use linear_combos::Code;
 use permutation_words::greatest_letter;
-use std::alloc::Global;
 
-// Appends the numbers in decimal, with commas between.
-fn append_numbers(alloc: Global, numbers: &[u8], out: &mut Bytes) -> Result<(), OutOfMemory>
-    ensures { OnOk result (out.new ≡ out.old ++ comma_separated (map decimal numbers.now)) }
+// The decimal text of a letter.
+fn letter_text(letter: u8) -> &'static [u8]
+    requires { letter ≤ 15 }
+    ensures { result.now ≡ decimal letter }
 {
-    let [first, later @ ..] = numbers else {
+    match letter {
+        0 => b"0",
+        1 => b"1",
+        2 => b"2",
+        3 => b"3",
+        4 => b"4",
+        5 => b"5",
+        6 => b"6",
+        7 => b"7",
+        8 => b"8",
+        9 => b"9",
+        10 => b"10",
+        11 => b"11",
+        12 => b"12",
+        13 => b"13",
+        14 => b"14",
+        15 => b"15",
+        _ => unreachable!(),
+    }
+}
+
+// Appends the letters of a code, with commas between.
+fn append_letters(code: &Code, out: &mut Bytes) -> Result<(), OutOfMemory>
+    ensures { OnOk result (out.new ≡ out.old ++ comma_separated (map decimal code.now)) }
+{
+    if code.len() == 0 {
         return Ok(());
-    };
-    out.push_all(format!(in alloc; "{first}")?.as_bytes())?;
-    for number in later {
-        out.push_all(format!(in alloc; ",{number}")?.as_bytes())?;
+    }
+    out.push_all(letter_text(code.letter(0)))?;
+    for at in 1..code.len() {
+        out.push_all(b",")?;
+        out.push_all(letter_text(code.letter(at)))?;
     }
     Ok(())
 }
 
-// Appends the letters of a code, with commas between.
-fn append_letters(alloc: Global, code: &Code, out: &mut Bytes) -> Result<(), OutOfMemory>
-    ensures { OnOk result (out.new ≡ out.old ++ comma_separated (map decimal code.now)) }
-{
-    let letters = code.letters(alloc);
-    append_numbers(alloc, letters.as_slice(), out)
-}
-
 /// Appends the spelling of a list of numbers, as a composition or a word: these in decimal, with commas
 /// between, in brackets. After an error some of it may have been appended.
-pub fn append_list(alloc: Global, code: &Code, out: &mut Bytes) -> Result<(), OutOfMemory>
+pub fn append_list(code: &Code, out: &mut Bytes) -> Result<(), OutOfMemory>
     ensures { OnOk result (out.new ≡ out.old ++ list_text code.now) }
 {
     out.push_all(b"[")?;
-    append_letters(alloc, code, out)?;
+    append_letters(code, out)?;
     out.push_all(b"]")
 }
 
@@ -59,27 +77,27 @@ fn places_of(letter: u8, code: &Code) -> Code
 }
 
 // Appends the lists of the rows of the tableau with a code, with commas between.
-fn append_row_lists(alloc: Global, code: &Code, out: &mut Bytes) -> Result<(), OutOfMemory>
+fn append_row_lists(code: &Code, out: &mut Bytes) -> Result<(), OutOfMemory>
     ensures { OnOk result (out.new ≡ out.old ++ comma_separated (map list_text (rows_of code.now))) }
 {
     let rows = greatest_letter(code);
     if rows == 0 {
         return Ok(());
     }
-    append_list(alloc, &places_of(1, code), out)?;
+    append_list(&places_of(1, code), out)?;
     for row in 2..rows + 1 {
         out.push_all(b",")?;
-        append_list(alloc, &places_of(row, code), out)?;
+        append_list(&places_of(row, code), out)?;
     }
     Ok(())
 }
 
 // Appends the spelling of the tableau with a code.
-fn append_rows(alloc: Global, code: &Code, out: &mut Bytes) -> Result<(), OutOfMemory>
+fn append_rows(code: &Code, out: &mut Bytes) -> Result<(), OutOfMemory>
     ensures { OnOk result (out.new ≡ out.old ++ rows_text (rows_of code.now)) }
 {
     out.push_all(b"[")?;
-    append_row_lists(alloc, code, out)?;
+    append_row_lists(code, out)?;
     out.push_all(b"]")
 }
 
@@ -117,12 +135,7 @@ fn after_root(code: &Code) -> Code
 }
 
 // Appends the spelling of the tree of at most so many levels with a code.
-fn append_tree(
-    alloc: Global,
-    levels: usize,
-    code: &Code,
-    out: &mut Bytes,
-) -> Result<(), OutOfMemory>
+fn append_tree(levels: usize, code: &Code, out: &mut Bytes) -> Result<(), OutOfMemory>
     ensures { OnOk result (out.new ≡ out.old ++ tree_text (tree_within levels code.now)) }
 {
     if levels == 0 {
@@ -132,9 +145,9 @@ fn append_tree(
         return out.push_all(b"[]");
     }
     out.push_all(b"[")?;
-    append_tree(alloc, levels - 1, &before_root(code), out)?;
+    append_tree(levels - 1, &before_root(code), out)?;
     out.push_all(b",")?;
-    append_tree(alloc, levels - 1, &after_root(code), out)?;
+    append_tree(levels - 1, &after_root(code), out)?;
     out.push_all(b"]")
 }
 
@@ -143,17 +156,12 @@ fn append_tree(
 /// a binary tree. After an error some of it may have been appended.
 ///
 /// The cost grows with the square of the length of the code.
-pub fn append_index(
-    alloc: Global,
-    basis: BasisId,
-    code: &Code,
-    out: &mut Bytes,
-) -> Result<(), OutOfMemory>
+pub fn append_index(basis: BasisId, code: &Code, out: &mut Bytes) -> Result<(), OutOfMemory>
     ensures { OnOk result (out.new ≡ out.old ++ index_spelling (index_kind_of basis) code.now) }
 {
     match basis {
-        BasisId::FsymS => append_rows(alloc, code, out),
-        BasisId::PbtP => append_tree(alloc, code.len(), code, out),
-        _ => append_list(alloc, code, out),
+        BasisId::FsymS => append_rows(code, out),
+        BasisId::PbtP => append_tree(code.len(), code, out),
+        _ => append_list(code, out),
     }
 }

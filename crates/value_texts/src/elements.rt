@@ -23,13 +23,12 @@ pub fn print_index(
     ensures err { OnErr result (out.new ≡ out.old) }
 {
     let mut text = Bytes::new(alloc);
-    append_element(alloc, basis, code, &mut text)?;
+    append_element(basis, code, &mut text)?;
     out.push_all(text.as_slice())
 }
 
 // Appends a basis element. After an error some of it may have been appended.
 pub(crate) fn append_element(
-    alloc: Global,
     basis: BasisId,
     code: &Code,
     out: &mut Bytes,
@@ -37,5 +36,5 @@ pub(crate) fn append_element(
     ensures { OnOk result (out.new ≡ out.old ++ index_text basis code.now) }
 {
     out.push_all(basis_name(basis))?;
-    append_index(alloc, basis, code, out)
+    append_index(basis, code, out)
 }

@@ -39,11 +39,11 @@ fn text_of(alloc: Global, value: &Value) -> Result<Bytes, OutOfMemory>
         return Ok(text);
     }
     text.push_all(leading_sign(first.num()))?;
-    append_term(alloc, value, 0, &first, &mut text)?;
+    append_term(value, 0, &first, &mut text)?;
     for place in 1..value.combo().len() {
         let next = coefficient(value, place);
         text.push_all(joining_sign(next.num()))?;
-        append_term(alloc, value, place, &next, &mut text)?;
+        append_term(value, place, &next, &mut text)?;
     }
     Ok(text)
 }
@@ -68,7 +68,6 @@ fn append_fraction(number: &Fraction, out: &mut Bytes) -> Result<(), OutOfMemory
 
 // Appends a term without its sign.
 fn append_term(
-    alloc: Global,
     value: &Value,
     place: usize,
     coefficient: &Fraction,
@@ -78,7 +77,7 @@ fn append_term(
     ensures { OnOk result (out.new ≡ out.old ++ term_text value.now.bases coefficient.now ((term_at value.now.combination.terms place).1)) }
 {
     append_coefficient(coefficient, out)?;
-    append_key(alloc, value.bases(), value.combo().key_at(place), out)
+    append_key(value.bases(), value.combo().key_at(place), out)
 }
 
 // Appends an absolute coefficient and `*`, or nothing where it is 1.
@@ -103,17 +102,17 @@ fn append_absolute(number: &Fraction, out: &mut Bytes) -> Result<(), OutOfMemory
 }
 
 // Appends the basis elements of a key, with ` # ` between.
-fn append_key(alloc: Global, bases: &Bases, key: &Key, out: &mut Bytes) -> Result<(), OutOfMemory>
+fn append_key(bases: &Bases, key: &Key, out: &mut Bytes) -> Result<(), OutOfMemory>
     requires { length key.now ≡ length bases.now }
     ensures { OnOk result (out.new ≡ out.old ++ key_text bases.now key.now) }
 {
     if bases.len() == 0 {
         return Ok(());
     }
-    append_element(alloc, bases.at(1), key.code(1), out)?;
+    append_element(bases.at(1), key.code(1), out)?;
     for component in 2..=bases.len() {
         out.push_all(b" # ")?;
-        append_element(alloc, bases.at(component), key.code(component), out)?;
+        append_element(bases.at(component), key.code(component), out)?;
     }
     Ok(())
 }
