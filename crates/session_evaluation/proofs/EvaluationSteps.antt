@@ -42,6 +42,11 @@ pub element_evaluates : (names : Names) (basis : BasisId) (items : List Lexeme) 
 element_evaluates names basis items answer (inl memory) = inl memory
 element_evaluates names basis items answer (inr (code, spells, is)) = inr (subst (λ (a : Answer). Evaluates names (e.Element basis items) a) (sym is) (element spells))
 
+-- a value of which this holds is kept, for which memory may want
+pub kept : (P : Answer → Type 0) (v : Expansion) (answer : Answer) → OrMemory P (Ok v) → OrMemory (λ r. r ≡ Ok v) answer → OrMemory P answer
+kept P v answer h (inl memory) = inl memory
+kept P v answer h (inr is) = subst (OrMemory P) (sym is) h
+
 -- an operand was evaluated, and then the operation applied
 pub takes_step : (names : Names) (o : Operator) (a : Expansion) (x : Expr) (operand next : Answer) → Evaluates names x operand → OrMemory (Applies o a operand) next → OrMemory (TakesStep names o a x) next
 takes_step names o a x operand next h (inl memory) = inl memory

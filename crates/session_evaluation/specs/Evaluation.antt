@@ -16,6 +16,8 @@ use Rattle.hopf_ops.specs.ReadingOperations.{negative}
 use Rattle.session_grammar.specs.declared.expression.Expr.{Expr}
 use Rattle.session_grammar.specs.declared.expression.Factor.{Factor}
 use Rattle.session_grammar.specs.declared.expression.Signed.{Signed}
+use Rattle.session_evaluation.specs.declared.evaluation.Operand.{Operand}
+use Rattle.session_evaluation.specs.declared.evaluation.Operand.TheVariants.{Known, Made}
 use Rattle.session_evaluation.specs.declared.operator.Operator.{Operator}
 use Rattle.session_evaluation.specs.declared.operator.Operator.TheVariants.{Plus, Minus, Hash, Times, Over}
 use Rattle.session_evaluation.specs.declared.refusal.EvaluationRefusal.{EvaluationRefusal}
@@ -120,6 +122,16 @@ told (Err r) = Err (refusal.Value r)
 -- want of memory, or an answer of which this holds
 abbrev pub OrMemory : (Answer → Type 0) → Answer → Type 0
 OrMemory P answer = (answer ≡ Err (refusal.Value value.Memory)) ⊎ P answer
+
+-- the value of an operand, which is that of a name or was made
+abbrev pub held : Operand → Expansion
+held (Known v) = v.now
+held (Made v) = v
+
+-- the answer that an operand is
+abbrev pub answer_of : Result Operand EvaluationRefusal → Answer
+answer_of (Ok a) = Ok (held a)
+answer_of (Err r) = Err r
 
 -- the first part of a sum is evaluated, and takes its sign
 abbrev pub Begins : Names → Signed → Answer → Type 0

@@ -1,17 +1,52 @@
 //! The value of an expression.
-ghost use Rattle.std.specs.Prelude.{◌≡◌, ◌⊎◌, ◌^◌, ◌<◌, if◌then◌else◌, Ok};
+ghost use Rattle.std.specs.Prelude.{true, ◌≡◌, ◌⊎◌, ◌^◌, ◌<◌, if◌then◌else◌, Ok};
 ghost use Rattle.session_evaluation.specs.Built.{IsBuilt};
-ghost use Rattle.session_evaluation.specs.Evaluation.{told, OrMemory, number_value, Operates, Signs, Evaluates, Begins, TakesStep};
+ghost use Rattle.session_evaluation.specs.Evaluation.{told, OrMemory, number_value, Operates, Signs, Evaluates, held, answer_of, Begins, TakesStep};
 
 use crate::elements::value_of_element;
 use crate::{EvaluationRefusal, Names, Operator};
 use basis_routes::{Refusal, Value};
 use hopf_num::OutOfMemory;
-use hopf_ops::{add_to, divided, negated, sub_from, tensor, times_by, times_onto};
+use hopf_ops::{
+    add, add_to, divide, divided, negate, negated, sub, sub_from, tensor, times, times_by,
+    times_onto,
+};
 use linear_combos::{Combo, Key};
 use session_grammar::{Expr, Factor, Signed};
 use session_tokens::Name;
 use std::alloc::Global;
+
+// An operand: the value of a name, which stays, or a value that was made for the operation.
+#[derive(Drop)]
+enum Operand<'a> {
+    Known(&'a Value),
+    Made(Value),
+}
+
+impl<'a> Operand<'a> {
+    // The value.
+    fn value(&self) -> &Value
+        ensures { result.now ≡ held self.now }
+    {
+        match self {
+            Operand::Known(value) => value,
+            Operand::Made(value) => value,
+        }
+    }
+
+    // The value for keeps: that of a name is copied.
+    fn owned(self, alloc: Global) -> Result<Value, EvaluationRefusal>
+        ensures { OrMemory (λ answer. answer ≡ Ok (held self.entry)) result }
+    {
+        match self {
+            Operand::Known(value) => match value.copy(alloc) {
+                Ok(value) => Ok(value),
+                Err(OutOfMemory) => Err(EvaluationRefusal::Value(Refusal::Memory)),
+            },
+            Operand::Made(value) => Ok(value),
+        }
+    }
+}
 
 // The refusal of an operation is that of the statement.
 fn told_of(value: Result<Value, Refusal>) -> Result<Value, EvaluationRefusal>
@@ -45,20 +80,43 @@ fn unknown(alloc: Global, name: &Name) -> EvaluationRefusal
 }
 
 // The value of a name.
-fn value_of_name(alloc: Global, names: &Names, name: &Name) -> Result<Value, EvaluationRefusal>
-    ensures { OrMemory (Evaluates names.now (Expr.Named name.now)) result }
+fn named<'a>(alloc: Global, names: &'a Names, name: &Name) -> Result<Operand<'a>, EvaluationRefusal>
+    ensures { OrMemory (Evaluates names.now (Expr.Named name.now)) (answer_of result) }
 {
     match names.get(name.as_slice()) {
-        Some(value) => match value.copy(alloc) {
-            Ok(value) => Ok(value),
-            Err(OutOfMemory) => Err(EvaluationRefusal::Value(Refusal::Memory)),
-        },
+        Some(value) => Ok(Operand::Known(value)),
         None => Err(unknown(alloc, name)),
     }
 }
 
-// One operation on two values. Sums, multiples and quotients are made of the first one.
-fn operate(
+// A copy of the value of a name.
+fn value_of_name(alloc: Global, names: &Names, name: &Name) -> Result<Value, EvaluationRefusal>
+    ensures { OrMemory (Evaluates names.now (Expr.Named name.now)) result }
+{
+    let value = named(alloc, names, name)?;
+    value.owned(alloc)
+}
+
+// One operation on two values that stay.
+fn operate_between(
+    alloc: Global,
+    operator: Operator,
+    a: &Value,
+    b: &Value,
+) -> Result<Value, EvaluationRefusal>
+    ensures { OrMemory (Operates operator a.now b.now) result }
+{
+    told_of(match operator {
+        Operator::Plus => add(alloc, a, b),
+        Operator::Minus => sub(alloc, a, b),
+        Operator::Hash => tensor(alloc, a, b),
+        Operator::Times => times(alloc, a, b),
+        Operator::Over => divide(alloc, a, b),
+    })
+}
+
+// The same where the first value was made for it: sums, multiples and quotients are made of it.
+fn operate_from(
     alloc: Global,
     operator: Operator,
     a: Value,
@@ -75,58 +133,121 @@ fn operate(
     })
 }
 
-// The same with a second value that may be changed: a multiple of it is made of it.
+// The same on an operand and a value that stays.
 fn operate_on(
     alloc: Global,
     operator: Operator,
-    a: Value,
+    a: Operand<'_>,
+    b: &Value,
+) -> Result<Value, EvaluationRefusal>
+    ensures { OrMemory (Operates operator (held a.entry) b.now) result }
+{
+    match a {
+        Operand::Known(a) => operate_between(alloc, operator, a, b),
+        Operand::Made(a) => operate_from(alloc, operator, a, b),
+    }
+}
+
+// The same where the second value was made for it: a multiple of it is made of it.
+fn operate_onto(
+    alloc: Global,
+    operator: Operator,
+    a: Operand<'_>,
     b: Value,
 ) -> Result<Value, EvaluationRefusal>
-    ensures { OrMemory (Operates operator a b) result }
+    ensures { OrMemory (Operates operator (held a.entry) b) result }
 {
-    if operator == Operator::Times && a.rank() == 0 {
-        return told_of(times_onto(alloc, &a, b));
+    if operator == Operator::Times && a.value().rank() == 0 {
+        return told_of(times_onto(alloc, a.value(), b));
     }
-    operate(alloc, operator, a, &b)
+    operate_on(alloc, operator, a, &b)
 }
 
-// The first operand of a sum, with its sign. It takes no memory.
-fn with_sign(minus: bool, a: Value) -> Value
-    ensures { Signs minus (Ok a) (Ok result) }
+// One operation.
+fn operate(
+    alloc: Global,
+    operator: Operator,
+    a: Operand<'_>,
+    b: Operand<'_>,
+) -> Result<Value, EvaluationRefusal>
+    ensures { OrMemory (Operates operator (held a.entry) (held b.entry)) result }
 {
-    if minus { negated(a) } else { a }
+    match b {
+        Operand::Known(b) => operate_on(alloc, operator, a, b),
+        Operand::Made(b) => operate_onto(alloc, operator, a, b),
+    }
 }
 
-// The operation with an operand that is evaluated now. The value of a name is not copied.
+// The value of an operand with the other sign.
+fn opposite(alloc: Global, a: Operand<'_>) -> Result<Value, EvaluationRefusal>
+    ensures { OrMemory (Signs true (Ok (held a.entry))) result }
+{
+    match a {
+        Operand::Known(a) => told_of(negate(alloc, a)),
+        Operand::Made(a) => Ok(negated(a)),
+    }
+}
+
+// The first operand of a sum, with its sign.
+fn with_sign<'a>(
+    alloc: Global,
+    minus: bool,
+    a: Operand<'a>,
+) -> Result<Operand<'a>, EvaluationRefusal>
+    ensures { OrMemory (Signs minus (Ok (held a.entry))) (answer_of result) }
+{
+    if !minus {
+        return Ok(a);
+    }
+    let value = opposite(alloc, a)?;
+    Ok(Operand::Made(value))
+}
+
+// An operand, evaluated now. The value of a name is not copied.
+#[cycle(evaluation)]
+fn operand_of<'a>(
+    alloc: Global,
+    names: &'a Names,
+    x: &Expr,
+) -> Result<Operand<'a>, EvaluationRefusal>
+    requires { IsBuilt x.now }
+    ensures { OrMemory (Evaluates names.now x.now) (answer_of result) }
+{
+    if let Expr::Named(name) = x {
+        return named(alloc, names, name);
+    }
+    let value = value_of(alloc, names, x)?;
+    Ok(Operand::Made(value))
+}
+
+// The operation with an operand that is evaluated now.
 #[cycle(evaluation)]
 fn apply(
     alloc: Global,
     names: &Names,
     operator: Operator,
-    a: Value,
+    a: Operand<'_>,
     x: &Expr,
 ) -> Result<Value, EvaluationRefusal>
     requires { IsBuilt x.now }
-    ensures { OrMemory (TakesStep names.now operator a x.now) result }
+    ensures { OrMemory (TakesStep names.now operator (held a.entry) x.now) result }
 {
-    if let Expr::Named(name) = x {
-        return match names.get(name.as_slice()) {
-            Some(b) => operate(alloc, operator, a, b),
-            None => Err(unknown(alloc, name)),
-        };
-    }
-    let b = value_of(alloc, names, x)?;
-    operate_on(alloc, operator, a, b)
+    let b = operand_of(alloc, names, x)?;
+    operate(alloc, operator, a, b)
 }
 
 // The first part of a sum, with its sign.
 #[cycle(evaluation)]
-fn first_of_sum(alloc: Global, names: &Names, part: &Signed) -> Result<Value, EvaluationRefusal>
+fn first_of_sum<'a>(
+    alloc: Global,
+    names: &'a Names,
+    part: &Signed,
+) -> Result<Operand<'a>, EvaluationRefusal>
     requires { IsBuilt part.now.value }
-    ensures { OrMemory (Begins names.now part.now) result }
+    ensures { OrMemory (Begins names.now part.now) (answer_of result) }
 {
-    let value = value_of(alloc, names, &part.value)?;
-    Ok(with_sign(part.minus, value))
+    let first = operand_of(alloc, names, &part.value)?;
+    with_sign(alloc, part.minus, first)
 }
 
 // A sum with one more part.
@@ -134,11 +255,11 @@ fn first_of_sum(alloc: Global, names: &Names, part: &Signed) -> Result<Value, Ev
 fn with_part(
     alloc: Global,
     names: &Names,
-    sum: Value,
+    sum: Operand<'_>,
     part: &Signed,
 ) -> Result<Value, EvaluationRefusal>
     requires { IsBuilt part.now.value }
-    ensures { OrMemory (TakesStep names.now (if part.now.minus then Operator.Minus else Operator.Plus) sum part.now.value) result }
+    ensures { OrMemory (TakesStep names.now (if part.now.minus then Operator.Minus else Operator.Plus) (held sum.entry) part.now.value) result }
 {
     let operator = if part.minus {
         Operator::Minus
@@ -156,9 +277,9 @@ fn value_of_sum(alloc: Global, names: &Names, parts: &[Signed]) -> Result<Value,
 {
     let mut sum = first_of_sum(alloc, names, &parts[0])?;
     for i in 1..parts.len() {
-        sum = with_part(alloc, names, sum, &parts[i])?;
+        sum = Operand::Made(with_part(alloc, names, sum, &parts[i])?);
     }
-    Ok(sum)
+    sum.owned(alloc)
 }
 
 // The value of a tensor product.
@@ -167,20 +288,24 @@ fn value_of_tensor(alloc: Global, names: &Names, parts: &[Expr]) -> Result<Value
     requires { IsBuilt (Expr.Tensor parts.now) }
     ensures { OrMemory (Evaluates names.now (Expr.Tensor parts.now)) result }
 {
-    let mut tensor = value_of(alloc, names, &parts[0])?;
+    let mut tensor = operand_of(alloc, names, &parts[0])?;
     for i in 1..parts.len() {
-        tensor = apply(alloc, names, Operator::Hash, tensor, &parts[i])?;
+        tensor = Operand::Made(apply(alloc, names, Operator::Hash, tensor, &parts[i])?);
     }
-    Ok(tensor)
+    tensor.owned(alloc)
 }
 
 // The first factor of a product.
 #[cycle(evaluation)]
-fn first_of_product(alloc: Global, names: &Names, part: &Factor) -> Result<Value, EvaluationRefusal>
+fn first_of_product<'a>(
+    alloc: Global,
+    names: &'a Names,
+    part: &Factor,
+) -> Result<Operand<'a>, EvaluationRefusal>
     requires { IsBuilt part.now.value }
-    ensures { OrMemory (Evaluates names.now part.now.value) result }
+    ensures { OrMemory (Evaluates names.now part.now.value) (answer_of result) }
 {
-    value_of(alloc, names, &part.value)
+    operand_of(alloc, names, &part.value)
 }
 
 // A product with one more factor or divisor.
@@ -188,11 +313,11 @@ fn first_of_product(alloc: Global, names: &Names, part: &Factor) -> Result<Value
 fn with_factor(
     alloc: Global,
     names: &Names,
-    product: Value,
+    product: Operand<'_>,
     part: &Factor,
 ) -> Result<Value, EvaluationRefusal>
     requires { IsBuilt part.now.value }
-    ensures { OrMemory (TakesStep names.now (if part.now.divides then Operator.Over else Operator.Times) product part.now.value) result }
+    ensures { OrMemory (TakesStep names.now (if part.now.divides then Operator.Over else Operator.Times) (held product.entry) part.now.value) result }
 {
     let operator = if part.divides {
         Operator::Over
@@ -214,9 +339,9 @@ fn value_of_product(
 {
     let mut product = first_of_product(alloc, names, &parts[0])?;
     for i in 1..parts.len() {
-        product = with_factor(alloc, names, product, &parts[i])?;
+        product = Operand::Made(with_factor(alloc, names, product, &parts[i])?);
     }
-    Ok(product)
+    product.owned(alloc)
 }
 
 /// The value of an expression, or the refusal that comes first. Operands are evaluated from left to
