@@ -1,7 +1,8 @@
 //! The value of an expression.
-ghost use Rattle.std.specs.Prelude.{true, ◌≡◌, ◌⊎◌, ◌^◌, ◌<◌, if◌then◌else◌, Ok};
+ghost use Rattle.std.specs.Prelude.{true, ◌≡◌, ◌⊎◌, ◌^◌, ◌<◌, ◌+◌, ◌∷◌, length, drop, if◌then◌else◌, Ok};
+ghost use Rattle.session_grammar.specs.declared.expression.Expr.{size-Expr};
 ghost use Rattle.session_evaluation.specs.Built.{IsBuilt};
-ghost use Rattle.session_evaluation.specs.Evaluation.{told, OrMemory, number_value, Operates, Signs, Evaluates, held, answer_of, Begins, TakesStep};
+ghost use Rattle.session_evaluation.specs.Evaluation.{told, OrMemory, number_value, Operates, Signs, Evaluates, held, answer_of, is_minus, steps_of};
 
 use crate::elements::value_of_element;
 use crate::{EvaluationRefusal, Names, Operator};
@@ -16,7 +17,7 @@ use session_grammar::{Expr, Factor, Signed};
 use session_tokens::Name;
 use std::alloc::Global;
 
-// An operand: the value of a name, which stays, or a value that was made for the operation.
+// A value to operate on: that of a name, which stays, or one that was made for the operation.
 #[derive(Drop)]
 enum Operand<'a> {
     Known(&'a Value),
@@ -188,22 +189,76 @@ fn opposite(alloc: Global, a: Operand<'_>) -> Result<Value, EvaluationRefusal>
     }
 }
 
-// The first operand of a sum, with its sign.
+// The first operand, with its sign.
 fn with_sign<'a>(
     alloc: Global,
-    minus: bool,
+    sign: Operator,
     a: Operand<'a>,
 ) -> Result<Operand<'a>, EvaluationRefusal>
-    ensures { OrMemory (Signs minus (Ok (held a.entry))) (answer_of result) }
+    ensures { OrMemory (Signs (is_minus sign) (Ok (held a.entry))) (answer_of result) }
 {
-    if !minus {
-        return Ok(a);
+    match sign {
+        Operator::Minus => {
+            let value = opposite(alloc, a)?;
+            Ok(Operand::Made(value))
+        }
+        _ => Ok(a),
     }
-    let value = opposite(alloc, a)?;
-    Ok(Operand::Made(value))
 }
 
-// An operand, evaluated now. The value of a name is not copied.
+// How many operands a sum, a tensor product or a product has: each is a step of its evaluation.
+fn count_of_steps(x: &Expr) -> usize
+    ensures { result ≡ length (steps_of x.now) }
+{
+    match x {
+        Expr::Sum(parts) => parts.as_slice().len(),
+        Expr::Tensor(parts) => parts.as_slice().len(),
+        Expr::Product(parts) => parts.as_slice().len(),
+        _ => 0,
+    }
+}
+
+// A part of a sum, and its sign as the operation before it.
+fn step_of_part(part: &Signed) -> (Operator, &Expr)
+    ensures operator { result.0 ≡ (if part.now.minus then Operator.Minus else Operator.Plus) }
+    ensures operand { result.1.now ≡ part.now.value }
+{
+    let operator = if part.minus {
+        Operator::Minus
+    } else {
+        Operator::Plus
+    };
+    (operator, &part.value)
+}
+
+// A factor or a divisor, and the operation before it.
+fn step_of_factor(part: &Factor) -> (Operator, &Expr)
+    ensures operator { result.0 ≡ (if part.now.divides then Operator.Over else Operator.Times) }
+    ensures operand { result.1.now ≡ part.now.value }
+{
+    let operator = if part.divides {
+        Operator::Over
+    } else {
+        Operator::Times
+    };
+    (operator, &part.value)
+}
+
+// An operand, and the operation before it; only in a sum the first one's counts, as its sign.
+fn step_at(x: &Expr, i: usize) -> (Operator, &Expr)
+    requires { i < length (steps_of x.now) }
+    ensures step { drop i (steps_of x.now) ≡ (result.0, result.1.now) ∷ drop (i + 1) (steps_of x.now) }
+    ensures smaller { size-Expr result.1.now < size-Expr x.now }
+{
+    match x {
+        Expr::Sum(parts) => step_of_part(&parts.as_slice()[i]),
+        Expr::Tensor(parts) => (Operator::Hash, &parts.as_slice()[i]),
+        Expr::Product(parts) => step_of_factor(&parts.as_slice()[i]),
+        _ => unreachable!(),
+    }
+}
+
+// An expression, evaluated as an operand. The value of a name is not copied.
 #[cycle(evaluation)]
 fn operand_of<'a>(
     alloc: Global,
@@ -220,132 +275,26 @@ fn operand_of<'a>(
     Ok(Operand::Made(value))
 }
 
-// The operation with an operand that is evaluated now.
+// The value of a sum, a tensor product or a product.
 #[cycle(evaluation)]
-fn apply(
-    alloc: Global,
-    names: &Names,
-    operator: Operator,
-    a: Operand<'_>,
-    x: &Expr,
-) -> Result<Value, EvaluationRefusal>
-    requires { IsBuilt x.now }
-    ensures { OrMemory (TakesStep names.now operator (held a.entry) x.now) result }
+fn value_of_operation(alloc: Global, names: &Names, x: &Expr) -> Result<Value, EvaluationRefusal>
+    requires built { IsBuilt x.now }
+    requires some { 0 < length (steps_of x.now) }
+    ensures { OrMemory (Evaluates names.now x.now) result }
 {
-    let b = operand_of(alloc, names, x)?;
-    operate(alloc, operator, a, b)
-}
-
-// The first part of a sum, with its sign.
-#[cycle(evaluation)]
-fn first_of_sum<'a>(
-    alloc: Global,
-    names: &'a Names,
-    part: &Signed,
-) -> Result<Operand<'a>, EvaluationRefusal>
-    requires { IsBuilt part.now.value }
-    ensures { OrMemory (Begins names.now part.now) (answer_of result) }
-{
-    let first = operand_of(alloc, names, &part.value)?;
-    with_sign(alloc, part.minus, first)
-}
-
-// A sum with one more part.
-#[cycle(evaluation)]
-fn with_part(
-    alloc: Global,
-    names: &Names,
-    sum: Operand<'_>,
-    part: &Signed,
-) -> Result<Value, EvaluationRefusal>
-    requires { IsBuilt part.now.value }
-    ensures { OrMemory (TakesStep names.now (if part.now.minus then Operator.Minus else Operator.Plus) (held sum.entry) part.now.value) result }
-{
-    let operator = if part.minus {
-        Operator::Minus
-    } else {
-        Operator::Plus
-    };
-    apply(alloc, names, operator, sum, &part.value)
-}
-
-// The value of a sum.
-#[cycle(evaluation)]
-fn value_of_sum(alloc: Global, names: &Names, parts: &[Signed]) -> Result<Value, EvaluationRefusal>
-    requires { IsBuilt (Expr.Sum parts.now) }
-    ensures { OrMemory (Evaluates names.now (Expr.Sum parts.now)) result }
-{
-    let mut sum = first_of_sum(alloc, names, &parts[0])?;
-    for i in 1..parts.len() {
-        sum = Operand::Made(with_part(alloc, names, sum, &parts[i])?);
+    let (sign, y) = step_at(x, 0);
+    let first = operand_of(alloc, names, y)?;
+    let mut value = with_sign(alloc, sign, first)?;
+    for i in 1..count_of_steps(x) {
+        let (operator, y) = step_at(x, i);
+        let next = operand_of(alloc, names, y)?;
+        value = Operand::Made(operate(alloc, operator, value, next)?);
     }
-    sum.owned(alloc)
-}
-
-// The value of a tensor product.
-#[cycle(evaluation)]
-fn value_of_tensor(alloc: Global, names: &Names, parts: &[Expr]) -> Result<Value, EvaluationRefusal>
-    requires { IsBuilt (Expr.Tensor parts.now) }
-    ensures { OrMemory (Evaluates names.now (Expr.Tensor parts.now)) result }
-{
-    let mut tensor = operand_of(alloc, names, &parts[0])?;
-    for i in 1..parts.len() {
-        tensor = Operand::Made(apply(alloc, names, Operator::Hash, tensor, &parts[i])?);
-    }
-    tensor.owned(alloc)
-}
-
-// The first factor of a product.
-#[cycle(evaluation)]
-fn first_of_product<'a>(
-    alloc: Global,
-    names: &'a Names,
-    part: &Factor,
-) -> Result<Operand<'a>, EvaluationRefusal>
-    requires { IsBuilt part.now.value }
-    ensures { OrMemory (Evaluates names.now part.now.value) (answer_of result) }
-{
-    operand_of(alloc, names, &part.value)
-}
-
-// A product with one more factor or divisor.
-#[cycle(evaluation)]
-fn with_factor(
-    alloc: Global,
-    names: &Names,
-    product: Operand<'_>,
-    part: &Factor,
-) -> Result<Value, EvaluationRefusal>
-    requires { IsBuilt part.now.value }
-    ensures { OrMemory (TakesStep names.now (if part.now.divides then Operator.Over else Operator.Times) (held product.entry) part.now.value) result }
-{
-    let operator = if part.divides {
-        Operator::Over
-    } else {
-        Operator::Times
-    };
-    apply(alloc, names, operator, product, &part.value)
-}
-
-// The value of a product.
-#[cycle(evaluation)]
-fn value_of_product(
-    alloc: Global,
-    names: &Names,
-    parts: &[Factor],
-) -> Result<Value, EvaluationRefusal>
-    requires { IsBuilt (Expr.Product parts.now) }
-    ensures { OrMemory (Evaluates names.now (Expr.Product parts.now)) result }
-{
-    let mut product = first_of_product(alloc, names, &parts[0])?;
-    for i in 1..parts.len() {
-        product = Operand::Made(with_factor(alloc, names, product, &parts[i])?);
-    }
-    product.owned(alloc)
+    value.owned(alloc)
 }
 
 /// The value of an expression, or the refusal that comes first. Operands are evaluated from left to
-/// right, each just before its operation.
+/// right, each just before its operation. The value of a name is copied only where no operation is.
 #[cycle(evaluation)]
 pub fn value_of(alloc: Global, names: &Names, x: &Expr) -> Result<Value, EvaluationRefusal>
     requires { IsBuilt x.now }
@@ -355,9 +304,7 @@ pub fn value_of(alloc: Global, names: &Names, x: &Expr) -> Result<Value, Evaluat
         Expr::Number(number) => value_of_number(alloc, *number),
         Expr::Element(basis, items) => value_of_element(alloc, *basis, items.as_slice()),
         Expr::Named(name) => value_of_name(alloc, names, name),
-        Expr::Sum(parts) => value_of_sum(alloc, names, parts.as_slice()),
-        Expr::Tensor(parts) => value_of_tensor(alloc, names, parts.as_slice()),
-        Expr::Product(parts) => value_of_product(alloc, names, parts.as_slice()),
+        Expr::Sum(_) | Expr::Tensor(_) | Expr::Product(_) => value_of_operation(alloc, names, x),
         _ => unreachable!(),
     }
 }
