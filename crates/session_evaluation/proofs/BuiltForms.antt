@@ -25,15 +25,15 @@ pub data BuiltForm : Expr-F Expr Factor Signed → Type 0 where
   product_form : (part : Factor) (parts : List Factor) → IsBuilt part.value → AreBuilt (steps_of_product parts) → BuiltForm (o.Product (part ∷ parts))
 
 -- A number shows its form.
-out-number : (n : ℕ) → out-Expr (e.Number n) ≡ o.Number n
+pub out-number : (n : ℕ) → out-Expr (e.Number n) ≡ o.Number n
 out-number n = ap out-Expr (sym (e.rolls-Number n)) ∙ out-roll-Expr (o.Number n)
 
 -- A basis element shows its form.
-out-element : (b : BasisId) (items : List Lexeme) → out-Expr (e.Element b items) ≡ o.Element b items
+pub out-element : (b : BasisId) (items : List Lexeme) → out-Expr (e.Element b items) ≡ o.Element b items
 out-element b items = ap out-Expr (sym (e.rolls-Element b items)) ∙ out-roll-Expr (o.Element b items)
 
 -- A name shows its form.
-out-name : (name : List ℕ) → out-Expr (e.Named name) ≡ o.Named name
+pub out-name : (name : List ℕ) → out-Expr (e.Named name) ≡ o.Named name
 out-name name = ap out-Expr (sym (e.rolls-Named name)) ∙ out-roll-Expr (o.Named name)
 
 -- A conversion shows its form.
@@ -53,15 +53,15 @@ out-along : (x : Expr) (k : ℕ) (bs : List BasisId) → out-Expr (e.Along x k b
 out-along x k bs = ap out-Expr (sym (e.rolls-Along x k bs)) ∙ out-roll-Expr (o.Along x k bs)
 
 -- A sum shows its form.
-out-sum : (parts : List Signed) → out-Expr (e.Sum parts) ≡ o.Sum parts
+pub out-sum : (parts : List Signed) → out-Expr (e.Sum parts) ≡ o.Sum parts
 out-sum parts = ap out-Expr (sym (e.rolls-Sum parts)) ∙ out-roll-Expr (o.Sum parts)
 
 -- A tensor product shows its form.
-out-tensor : (parts : List Expr) → out-Expr (e.Tensor parts) ≡ o.Tensor parts
+pub out-tensor : (parts : List Expr) → out-Expr (e.Tensor parts) ≡ o.Tensor parts
 out-tensor parts = ap out-Expr (sym (e.rolls-Tensor parts)) ∙ out-roll-Expr (o.Tensor parts)
 
 -- A product shows its form.
-out-product : (parts : List Factor) → out-Expr (e.Product parts) ≡ o.Product parts
+pub out-product : (parts : List Factor) → out-Expr (e.Product parts) ≡ o.Product parts
 out-product parts = ap out-Expr (sym (e.rolls-Product parts)) ∙ out-roll-Expr (o.Product parts)
 
 -- A built expression has a built form.

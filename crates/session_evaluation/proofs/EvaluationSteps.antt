@@ -1,18 +1,16 @@
 -- How the calls of an evaluation follow the cases of its definition.
-use Rattle.std.proofs.Common.{◌≡◌, ◌⊎◌, ℕ, ◌+◌, ◌<◌, inl, inr, Bool, true, false, if◌then◌else◌, List, [], ◌∷◌, length, drop, slice_index_or, Option, Some, None, option_copied, Ok, Err, Bor, refl, sym, ◌∙◌, ap, subst, add-one, drop-cons}
+use Rattle.std.proofs.Common.{◌≡◌, ◌⊎◌, ℕ, ◌<◌, inl, inr, Bool, true, false, if◌then◌else◌, List, [], ◌∷◌, length, Option, Some, None, option_copied, Ok, Err, Bor, refl, sym, ◌∙◌, ap, subst, arith}
 use Rattle.basis_names.specs.declared.bases.BasisId.{BasisId}
 use Rattle.session_tokens.specs.declared.lexeme.Lexeme.{Lexeme}
 use Rattle.hopf_laws.specs.Values.{Expansion}
 use Rattle.session_grammar.specs.declared.expression.Expr.{Expr}
-use Rattle.session_grammar.specs.declared.expression.Factor.{Factor}
-use Rattle.session_grammar.specs.declared.expression.Signed.{Signed}
 use Rattle.session_evaluation.specs.declared.operator.Operator.{Operator}
-use Rattle.session_evaluation.specs.declared.operator.Operator.TheVariants.{Plus, Minus, Hash, Times, Over}
+use Rattle.session_evaluation.specs.declared.operator.Operator.TheVariants.{Plus, Minus, Times, Over}
 use Rattle.session_evaluation.specs.declared.refusal.EvaluationRefusal.{EvaluationRefusal}
 use Rattle.session_evaluation.specs.Names.{Names, value_of}
-use Rattle.session_evaluation.specs.Built.{IsBuilt, AreBuilt, built_step}
-use Rattle.session_evaluation.specs.Evaluation.{Answer, Steps, steps_of_sum, steps_of_tensor, steps_of_product, OrMemory, number_value, IsElement, Applies, Signs, Evaluates, number, element, known, unknown, sum, tensor_product, product, Folds, done, refused, step, Begins, TakesStep}
-use Rattle.session_evaluation.proofs.BuiltForms.{built_sum-inv, built_tensor-inv, built_product-inv}
+use Rattle.session_evaluation.specs.Built.{IsBuilt, built_number, built_element, built_name, built_sum, built_tensor, built_product, AreBuilt, built_step}
+use Rattle.session_evaluation.specs.Evaluation.{Answer, Steps, steps_of_tensor, steps_of_product, OrMemory, number_value, IsElement, Operates, Applies, Signs, is_minus, steps_in, steps_of, Evaluates, number, element, known, unknown, sum, tensor_product, product, Folds, done, refused, step}
+use Rattle.session_evaluation.proofs.BuiltForms.{out-number, out-element, out-name, out-sum, out-tensor, out-product}
 use Rattle.basis_routes.specs.declared.refusal.Refusal.TheVariants as value
 use Rattle.session_grammar.specs.declared.expression.Expr.TheVariants as e
 use Rattle.session_evaluation.specs.declared.refusal.EvaluationRefusal.TheVariants as refusal
@@ -42,10 +40,23 @@ pub element_evaluates : (names : Names) (basis : BasisId) (items : List Lexeme) 
 element_evaluates names basis items answer (inl memory) = inl memory
 element_evaluates names basis items answer (inr (code, spells, is)) = inr (subst (λ (a : Answer). Evaluates names (e.Element basis items) a) (sym is) (element spells))
 
+-- a value of which this holds is kept, for which memory may want
+pub kept : (P : Answer → Type 0) (v : Expansion) (answer : Answer) → OrMemory P (Ok v) → OrMemory (λ r. r ≡ Ok v) answer → OrMemory P answer
+kept P v answer h (inl memory) = inl memory
+kept P v answer h (inr is) = subst (OrMemory P) (sym is) h
+
+not_memory : (P : Answer → Type 0) (a : Expansion) → OrMemory P (Ok a) → P (Ok a)
+not_memory P a (inl memory) = absurd (cc)
+not_memory P a (inr h) = h
+
+-- One more step: the operand is evaluated, and then the operation applied.
+abbrev pub TakesStep : Names → Operator → Expansion → Expr → Answer → Type 0
+TakesStep names o a x next = (operand : Answer) × Evaluates names x operand × Applies o a operand next
+
 -- an operand was evaluated, and then the operation applied
-pub takes_step : (names : Names) (o : Operator) (a : Expansion) (x : Expr) (operand next : Answer) → Evaluates names x operand → OrMemory (Applies o a operand) next → OrMemory (TakesStep names o a x) next
-takes_step names o a x operand next h (inl memory) = inl memory
-takes_step names o a x operand next h (inr applies) = inr (operand, h, applies)
+pub takes_step : (names : Names) (o : Operator) (a b : Expansion) (x : Expr) (next : Answer) → OrMemory (Evaluates names x) (Ok b) → OrMemory (Operates o a b) next → OrMemory (TakesStep names o a x) next
+takes_step names o a b x next h (inl memory) = inl memory
+takes_step names o a b x next h (inr operates) = inr (Ok b, not_memory (Evaluates names x) b h, operates)
 
 -- the operand is refused, or wants memory
 pub refused_step : (names : Names) (o : Operator) (a : Expansion) (x : Expr) (q : EvaluationRefusal) → OrMemory (Evaluates names x) (Err q) → OrMemory (TakesStep names o a x) (Err q)
@@ -95,116 +106,59 @@ remains_refused names whole a o x steps q h (inr takes) = inr (h.onward (Err q) 
 pub remains_done : (names : Names) (whole : Expr) (a : Expansion) → Remains names whole a [] → OrMemory (Evaluates names whole) (Ok a)
 remains_done names whole a h = inr (h.onward (Ok a) done)
 
--- The parts of sums, tensor products and products, by what is read of them.
+-- How an expression begins: its first operand and the later ones are built, and what these come to is what it comes to.
+pub data Begun (names : Names) (x : Expr) : Steps → Type 0 where
+  begun : {o : Operator} {y : Expr} {rest : Steps} → IsBuilt y → AreBuilt rest
+      → ((first signed answer : Answer) → Evaluates names y first → Signs (is_minus o) first signed → Folds names signed rest answer → Evaluates names x answer) → Begun names x ((o, y) ∷ rest)
 
--- the first part of a sum was evaluated
-pub begins : (names : Names) (part : Signed) (first answer : Answer) → Evaluates names part.value first → OrMemory (Signs part.minus first) answer → OrMemory (Begins names part) answer
-begins names part first answer h (inl memory) = inl memory
-begins names part first answer h (inr signs) = inr (first, h, signs)
+minus_is : (minus : Bool) → is_minus (if minus then Minus else Plus) ≡ minus
+minus_is true = refl
+minus_is false = refl
+
+factor_has_none : (divides : Bool) → is_minus (if divides then Over else Times) ≡ false
+factor_has_none true = refl
+factor_has_none false = refl
+
+-- a sum, a tensor product or a product begins so
+pub begins : (names : Names) (x : Expr) → IsBuilt x → 0 < length (steps_of x) → Begun names x (steps_of x)
+begins names x (built_number {n = n} small) some = absurd (omega (arith, some, ap (λ form. length (steps_in form)) (out-number n)))
+begins names x (built_element {basis = basis} {items = items} spells) some = absurd (omega (arith, some, ap (λ form. length (steps_in form)) (out-element basis items)))
+begins names x (built_name {name = name}) some = absurd (omega (arith, some, ap (λ form. length (steps_in form)) (out-name name)))
+begins names x (built_sum part parts h later) some =
+    subst (Begun names x) (sym (ap steps_in (out-sum (part ∷ parts))))
+    (begun h later (λ first signed answer one signs rest. sum part parts one (subst (λ (minus : Bool). Signs minus first signed) (minus_is part.minus) signs) rest))
+begins names x (built_tensor part parts h later) some =
+    subst (Begun names x) (sym (ap steps_in (out-tensor (part ∷ parts))))
+    (begun h later (λ first signed answer one signs rest. tensor_product part parts one (subst (λ (a : Answer). Folds names a (steps_of_tensor parts) answer) signs rest)))
+begins names x (built_product part parts h later) some =
+    subst (Begun names x) (sym (ap steps_in (out-product (part ∷ parts))))
+    (begun h later (λ first signed answer one signs rest. product part parts one
+    (subst (λ (a : Answer). Folds names a (steps_of_product parts) answer) (subst (λ (minus : Bool). Signs minus first signed) (factor_has_none part.divides) signs) rest)))
+
+-- the first operand is built
+pub begun_built : (names : Names) (x : Expr) (o : Operator) (y : Expr) (rest : Steps) → Begun names x ((o, y) ∷ rest) → IsBuilt y
+begun_built names x o y rest (begun h later onward) = h
 
 signs_refused : (minus : Bool) (q : EvaluationRefusal) → Signs minus (Err q) (Err q)
 signs_refused true q = refl
 signs_refused false q = refl
 
--- it was refused
-pub begins_refused : (names : Names) (part : Signed) (q : EvaluationRefusal) → OrMemory (Evaluates names part.value) (Err q) → OrMemory (Begins names part) (Err q)
-begins_refused names part q (inl memory) = inl memory
-begins_refused names part q (inr h) = inr (Err q, h, signs_refused part.minus q)
+-- it is refused
+pub begun_refused : (names : Names) (x : Expr) (o : Operator) (y : Expr) (rest : Steps) (q : EvaluationRefusal) → Begun names x ((o, y) ∷ rest) → OrMemory (Evaluates names y) (Err q)
+    → OrMemory (Evaluates names x) (Err q)
+begun_refused names x o y rest q (begun h later onward) (inl memory) = inl memory
+begun_refused names x o y rest q (begun h later onward) (inr one) = inr (onward (Err q) (Err q) (Err q) one (signs_refused (is_minus o) q) (stays names q rest))
 
-tensor_begins : (names : Names) (part : Expr) (rest : List Expr) (a : Expansion) → AreBuilt (steps_of_tensor rest) → Evaluates names part (Ok a)
-    → Remains names (e.Tensor (part ∷ rest)) a (steps_of_tensor rest)
-tensor_begins names part rest a built h = record { built = built; onward = λ answer later. tensor_product part rest h later }
+-- its sign wants memory
+pub sign_refused : (names : Names) (x : Expr) (o : Operator) (y : Expr) (rest : Steps) (a : Expansion) (q : EvaluationRefusal) → Begun names x ((o, y) ∷ rest) → OrMemory (Evaluates names y) (Ok a)
+    → OrMemory (Signs (is_minus o) (Ok a)) (Err q) → OrMemory (Evaluates names x) (Err q)
+sign_refused names x o y rest a q (begun h later onward) one (inl memory) = inl memory
+sign_refused names x o y rest a q (begun h later onward) one (inr signs) = inr (onward (Ok a) (Err q) (Err q) (not_memory (Evaluates names y) a one) signs (stays names q rest))
 
-product_begins : (names : Names) (part : Factor) (rest : List Factor) (a : Expansion) → AreBuilt (steps_of_product rest) → Evaluates names part.value (Ok a)
-    → Remains names (e.Product (part ∷ rest)) a (steps_of_product rest)
-product_begins names part rest a built h = record { built = built; onward = λ answer later. product part rest h later }
-
--- a list that begins with a part has it at place 0, and the rest behind it
-pub sum_first : (parts : List Signed) (part : Signed) → IsBuilt (e.Sum parts) → part ≡ slice_index_or parts 0 part → IsBuilt part.value
-sum_first parts part built read =
-    let (first, rest, is, h, are) = built_sum-inv parts built in
-    let same : part ≡ first = read ∙ ap (λ (ps : List Signed). slice_index_or ps 0 part) is in
-    subst (λ (p : Signed). IsBuilt p.value) (sym same) h
-
-pub tensor_first : (parts : List Expr) (part : Expr) → IsBuilt (e.Tensor parts) → part ≡ slice_index_or parts 0 part → IsBuilt part
-tensor_first parts part built read =
-    let (first, rest, is, h, are) = built_tensor-inv parts built in
-    let same : part ≡ first = read ∙ ap (λ (ps : List Expr). slice_index_or ps 0 part) is in
-    subst (λ (p : Expr). IsBuilt p) (sym same) h
-
-pub product_first : (parts : List Factor) (part : Factor) → IsBuilt (e.Product parts) → part ≡ slice_index_or parts 0 part → IsBuilt part.value
-product_first parts part built read =
-    let (first, rest, is, h, are) = built_product-inv parts built in
-    let same : part ≡ first = read ∙ ap (λ (ps : List Factor). slice_index_or ps 0 part) is in
-    subst (λ (p : Factor). IsBuilt p.value) (sym same) h
-
--- the first operand is refused
-pub sum_refused : (names : Names) (parts : List Signed) (part : Signed) (q : EvaluationRefusal) → IsBuilt (e.Sum parts) → part ≡ slice_index_or parts 0 part
-    → OrMemory (Begins names part) (Err q) → OrMemory (Evaluates names (e.Sum parts)) (Err q)
-sum_refused names parts part q built read (inl memory) = inl memory
-sum_refused names parts part q built read (inr (first, h, signs)) =
-    let (head, rest, is, _, are) = built_sum-inv parts built in
-    let same : part ≡ head = read ∙ ap (λ (ps : List Signed). slice_index_or ps 0 part) is in
-    inr (subst (λ (ps : List Signed). Evaluates names (e.Sum ps) (Err q)) (sym (is ∙ ap (λ (p : Signed). p ∷ rest) (sym same)))
-    (sum part rest h signs (stays names q (steps_of_sum rest))))
-
-pub tensor_refused : (names : Names) (parts : List Expr) (part : Expr) (q : EvaluationRefusal) → IsBuilt (e.Tensor parts) → part ≡ slice_index_or parts 0 part
-    → OrMemory (Evaluates names part) (Err q) → OrMemory (Evaluates names (e.Tensor parts)) (Err q)
-tensor_refused names parts part q built read (inl memory) = inl memory
-tensor_refused names parts part q built read (inr h) =
-    let (first, rest, is, _, are) = built_tensor-inv parts built in
-    let same : part ≡ first = read ∙ ap (λ (ps : List Expr). slice_index_or ps 0 part) is in
-    inr (subst (λ (ps : List Expr). Evaluates names (e.Tensor ps) (Err q)) (sym (is ∙ ap (λ (p : Expr). p ∷ rest) (sym same))) (tensor_product part rest h (stays names q (steps_of_tensor rest))))
-
-pub product_refused : (names : Names) (parts : List Factor) (part : Factor) (q : EvaluationRefusal) → IsBuilt (e.Product parts) → part ≡ slice_index_or parts 0 part
-    → OrMemory (Evaluates names part.value) (Err q) → OrMemory (Evaluates names (e.Product parts)) (Err q)
-product_refused names parts part q built read (inl memory) = inl memory
-product_refused names parts part q built read (inr h) =
-    let (first, rest, is, _, are) = built_product-inv parts built in
-    let same : part ≡ first = read ∙ ap (λ (ps : List Factor). slice_index_or ps 0 part) is in
-    inr (subst (λ (ps : List Factor). Evaluates names (e.Product ps) (Err q)) (sym (is ∙ ap (λ (p : Factor). p ∷ rest) (sym same))) (product part rest h (stays names q (steps_of_product rest))))
-
-not_memory : (P : Answer → Type 0) (a : Expansion) → OrMemory P (Ok a) → P (Ok a)
-not_memory P a (inl memory) = absurd (cc)
-not_memory P a (inr h) = h
-
--- the later operands remain behind the first
-pub sum_remains : (names : Names) (parts : List Signed) (part : Signed) (a : Expansion) → IsBuilt (e.Sum parts) → part ≡ slice_index_or parts 0 part → OrMemory (Begins names part) (Ok a)
-    → Remains names (e.Sum parts) a (steps_of_sum (drop 1 parts))
-sum_remains names parts part a built read begun =
-    let (head, rest, is, _, are) = built_sum-inv parts built in
-    let same : part ≡ head = read ∙ ap (λ (ps : List Signed). slice_index_or ps 0 part) is in
-    let (first, h, signs) = not_memory (Begins names part) a begun in
-    subst (λ (ps : List Signed). Remains names (e.Sum ps) a (steps_of_sum (drop 1 ps))) (sym (is ∙ ap (λ (p : Signed). p ∷ rest) (sym same)))
-    (record { built = are; onward = λ answer later. sum part rest h signs later })
-
-pub tensor_remains : (names : Names) (parts : List Expr) (part : Expr) (a : Expansion) → IsBuilt (e.Tensor parts) → part ≡ slice_index_or parts 0 part → OrMemory (Evaluates names part) (Ok a)
-    → Remains names (e.Tensor parts) a (steps_of_tensor (drop 1 parts))
-tensor_remains names parts part a built read h =
-    let (head, rest, is, _, are) = built_tensor-inv parts built in
-    let same : part ≡ head = read ∙ ap (λ (ps : List Expr). slice_index_or ps 0 part) is in
-    subst (λ (ps : List Expr). Remains names (e.Tensor ps) a (steps_of_tensor (drop 1 ps))) (sym (is ∙ ap (λ (p : Expr). p ∷ rest) (sym same)))
-    (tensor_begins names part rest a are (not_memory (Evaluates names part) a h))
-
-pub product_remains : (names : Names) (parts : List Factor) (part : Factor) (a : Expansion) → IsBuilt (e.Product parts) → part ≡ slice_index_or parts 0 part → OrMemory (Evaluates names part.value) (Ok a)
-    → Remains names (e.Product parts) a (steps_of_product (drop 1 parts))
-product_remains names parts part a built read h =
-    let (head, rest, is, _, are) = built_product-inv parts built in
-    let same : part ≡ head = read ∙ ap (λ (ps : List Factor). slice_index_or ps 0 part) is in
-    subst (λ (ps : List Factor). Remains names (e.Product ps) a (steps_of_product (drop 1 ps))) (sym (is ∙ ap (λ (p : Factor). p ∷ rest) (sym same)))
-    (product_begins names part rest a are (not_memory (Evaluates names part.value) a h))
-
--- the steps from a place on, by the part that is read there
-drop_read : {A : Type 0} (xs : List A) (i : ℕ) (x : A) → i < length xs → x ≡ slice_index_or xs i x → drop i xs ≡ x ∷ drop (i + 1) xs
-drop_read xs i x lt read = drop-cons xs i x lt ∙ (λ k. sym read k ∷ drop (sym (add-one i) k) xs)
-
-pub sum_steps : (parts : List Signed) (i : ℕ) (part : Signed) → i < length parts → part ≡ slice_index_or parts i part
-    → steps_of_sum (drop i parts) ≡ (if part.minus then Minus else Plus, part.value) ∷ steps_of_sum (drop (i + 1) parts)
-sum_steps parts i part lt read = ap steps_of_sum (drop_read parts i part lt read)
-
-pub tensor_steps : (parts : List Expr) (i : ℕ) (part : Expr) → i < length parts → part ≡ slice_index_or parts i part → steps_of_tensor (drop i parts) ≡ (Hash, part) ∷ steps_of_tensor (drop (i + 1) parts)
-tensor_steps parts i part lt read = ap steps_of_tensor (drop_read parts i part lt read)
-
-pub product_steps : (parts : List Factor) (i : ℕ) (part : Factor) → i < length parts → part ≡ slice_index_or parts i part
-    → steps_of_product (drop i parts) ≡ (if part.divides then Over else Times, part.value) ∷ steps_of_product (drop (i + 1) parts)
-product_steps parts i part lt read = ap steps_of_product (drop_read parts i part lt read)
+-- the later operands remain after it
+pub begun_remains : (names : Names) (x : Expr) (o : Operator) (y : Expr) (rest : Steps) (a v : Expansion) → Begun names x ((o, y) ∷ rest) → OrMemory (Evaluates names y) (Ok a)
+    → OrMemory (Signs (is_minus o) (Ok a)) (Ok v) → Remains names x v rest
+begun_remains names x o y rest a v (begun h later onward) one signs = record {
+  built = later;
+  onward = λ answer more. onward (Ok a) (Ok v) answer (not_memory (Evaluates names y) a one) (not_memory (Signs (is_minus o) (Ok a)) v signs) more;
+}

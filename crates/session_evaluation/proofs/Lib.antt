@@ -7,3 +7,4 @@ pub mod OneEvaluation
 pub mod OneMeaning
 pub mod Operations
 pub mod SpelledElements
+pub mod StepReads

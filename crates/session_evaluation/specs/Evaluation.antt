@@ -13,14 +13,18 @@ use Rattle.basis_routes.specs.Checks.{Passes, IsFirstFailing}
 use Rattle.basis_routes.specs.Joins.{joined}
 use Rattle.hopf_ops.specs.Operations.{sum_checks, tensor_checks, product_checks, product_bases, quotient_checks}
 use Rattle.hopf_ops.specs.ReadingOperations.{negative}
-use Rattle.session_grammar.specs.declared.expression.Expr.{Expr}
+use Rattle.session_grammar.specs.declared.expression.Expr.{Expr, out-Expr}
+use Rattle.session_grammar.specs.declared.expression.Expr.TheOpen.{Expr-F}
 use Rattle.session_grammar.specs.declared.expression.Factor.{Factor}
 use Rattle.session_grammar.specs.declared.expression.Signed.{Signed}
+use Rattle.session_evaluation.specs.declared.evaluation.Operand.{Operand}
+use Rattle.session_evaluation.specs.declared.evaluation.Operand.TheVariants.{Known, Made}
 use Rattle.session_evaluation.specs.declared.operator.Operator.{Operator}
 use Rattle.session_evaluation.specs.declared.operator.Operator.TheVariants.{Plus, Minus, Hash, Times, Over}
 use Rattle.session_evaluation.specs.declared.refusal.EvaluationRefusal.{EvaluationRefusal}
 use Rattle.session_evaluation.specs.Names.{Names, value_of}
 use Rattle.basis_routes.specs.declared.refusal.Refusal.TheVariants as value
+use Rattle.session_grammar.specs.declared.expression.Expr.TheOpen as form
 use Rattle.session_grammar.specs.declared.expression.Expr.TheVariants as e
 use Rattle.session_evaluation.specs.declared.refusal.EvaluationRefusal.TheVariants as refusal
 
@@ -121,10 +125,27 @@ told (Err r) = Err (refusal.Value r)
 abbrev pub OrMemory : (Answer → Type 0) → Answer → Type 0
 OrMemory P answer = (answer ≡ Err (refusal.Value value.Memory)) ⊎ P answer
 
--- the first part of a sum is evaluated, and takes its sign
-abbrev pub Begins : Names → Signed → Answer → Type 0
-Begins names part answer = (first : Answer) × Evaluates names part.value first × Signs part.minus first answer
+-- the value to operate on, of a name or made
+abbrev pub held : Operand → Expansion
+held (Known v) = v.now
+held (Made v) = v
 
--- one more step: the operand is evaluated, and then the operation applied
-abbrev pub TakesStep : Names → Operator → Expansion → Expr → Answer → Type 0
-TakesStep names o a x next = (operand : Answer) × Evaluates names x operand × Applies o a operand next
+-- the same where evaluation may have refused it
+abbrev pub answer_of : Result Operand EvaluationRefusal → Answer
+answer_of (Ok a) = Ok (held a)
+answer_of (Err r) = Err r
+
+-- whether an operation, as a sign, is a minus
+abbrev pub is_minus : Operator → Bool
+is_minus Minus = true
+is_minus _ = false
+
+-- the operands of a sum, a tensor product or a product, each with the operation before it; the first one's counts only in a sum, as its sign
+abbrev pub steps_in : Expr-F Expr Factor Signed → Steps
+steps_in (form.Sum parts) = steps_of_sum parts
+steps_in (form.Tensor parts) = steps_of_tensor parts
+steps_in (form.Product parts) = steps_of_product parts
+steps_in _ = []
+
+abbrev pub steps_of : Expr → Steps
+steps_of x = steps_in (out-Expr x)

@@ -1,17 +1,53 @@
 //! The value of an expression.
-ghost use Rattle.std.specs.Prelude.{◌≡◌, ◌⊎◌, ◌^◌, ◌<◌, if◌then◌else◌, Ok};
+ghost use Rattle.std.specs.Prelude.{true, ◌≡◌, ◌⊎◌, ◌^◌, ◌<◌, ◌+◌, ◌∷◌, length, drop, if◌then◌else◌, Ok};
+ghost use Rattle.session_grammar.specs.declared.expression.Expr.{size-Expr};
 ghost use Rattle.session_evaluation.specs.Built.{IsBuilt};
-ghost use Rattle.session_evaluation.specs.Evaluation.{told, OrMemory, number_value, Operates, Signs, Evaluates, Begins, TakesStep};
+ghost use Rattle.session_evaluation.specs.Evaluation.{told, OrMemory, number_value, Operates, Signs, Evaluates, held, answer_of, is_minus, steps_of};
 
 use crate::elements::value_of_element;
 use crate::{EvaluationRefusal, Names, Operator};
 use basis_routes::{Refusal, Value};
 use hopf_num::OutOfMemory;
-use hopf_ops::{add_to, divided, negated, sub_from, tensor, times_by, times_onto};
+use hopf_ops::{
+    add, add_to, divide, divided, negate, negated, sub, sub_from, tensor, times, times_by,
+    times_onto,
+};
 use linear_combos::{Combo, Key};
 use session_grammar::{Expr, Factor, Signed};
 use session_tokens::Name;
 use std::alloc::Global;
+
+// A value to operate on: that of a name, which stays, or one that was made for the operation.
+#[derive(Drop)]
+enum Operand<'a> {
+    Known(&'a Value),
+    Made(Value),
+}
+
+impl<'a> Operand<'a> {
+    // The value.
+    fn value(&self) -> &Value
+        ensures { result.now ≡ held self.now }
+    {
+        match self {
+            Operand::Known(value) => value,
+            Operand::Made(value) => value,
+        }
+    }
+
+    // The value for keeps: that of a name is copied.
+    fn owned(self, alloc: Global) -> Result<Value, EvaluationRefusal>
+        ensures { OrMemory (λ answer. answer ≡ Ok (held self.entry)) result }
+    {
+        match self {
+            Operand::Known(value) => match value.copy(alloc) {
+                Ok(value) => Ok(value),
+                Err(OutOfMemory) => Err(EvaluationRefusal::Value(Refusal::Memory)),
+            },
+            Operand::Made(value) => Ok(value),
+        }
+    }
+}
 
 // The refusal of an operation is that of the statement.
 fn told_of(value: Result<Value, Refusal>) -> Result<Value, EvaluationRefusal>
@@ -45,20 +81,43 @@ fn unknown(alloc: Global, name: &Name) -> EvaluationRefusal
 }
 
 // The value of a name.
-fn value_of_name(alloc: Global, names: &Names, name: &Name) -> Result<Value, EvaluationRefusal>
-    ensures { OrMemory (Evaluates names.now (Expr.Named name.now)) result }
+fn named<'a>(alloc: Global, names: &'a Names, name: &Name) -> Result<Operand<'a>, EvaluationRefusal>
+    ensures { OrMemory (Evaluates names.now (Expr.Named name.now)) (answer_of result) }
 {
     match names.get(name.as_slice()) {
-        Some(value) => match value.copy(alloc) {
-            Ok(value) => Ok(value),
-            Err(OutOfMemory) => Err(EvaluationRefusal::Value(Refusal::Memory)),
-        },
+        Some(value) => Ok(Operand::Known(value)),
         None => Err(unknown(alloc, name)),
     }
 }
 
-// One operation on two values. Sums, multiples and quotients are made of the first one.
-fn operate(
+// A copy of the value of a name.
+fn value_of_name(alloc: Global, names: &Names, name: &Name) -> Result<Value, EvaluationRefusal>
+    ensures { OrMemory (Evaluates names.now (Expr.Named name.now)) result }
+{
+    let value = named(alloc, names, name)?;
+    value.owned(alloc)
+}
+
+// One operation on two values that stay.
+fn operate_between(
+    alloc: Global,
+    operator: Operator,
+    a: &Value,
+    b: &Value,
+) -> Result<Value, EvaluationRefusal>
+    ensures { OrMemory (Operates operator a.now b.now) result }
+{
+    told_of(match operator {
+        Operator::Plus => add(alloc, a, b),
+        Operator::Minus => sub(alloc, a, b),
+        Operator::Hash => tensor(alloc, a, b),
+        Operator::Times => times(alloc, a, b),
+        Operator::Over => divide(alloc, a, b),
+    })
+}
+
+// The same where the first value was made for it: sums, multiples and quotients are made of it.
+fn operate_from(
     alloc: Global,
     operator: Operator,
     a: Value,
@@ -75,152 +134,167 @@ fn operate(
     })
 }
 
-// The same with a second value that may be changed: a multiple of it is made of it.
+// The same on an operand and a value that stays.
 fn operate_on(
     alloc: Global,
     operator: Operator,
-    a: Value,
+    a: Operand<'_>,
+    b: &Value,
+) -> Result<Value, EvaluationRefusal>
+    ensures { OrMemory (Operates operator (held a.entry) b.now) result }
+{
+    match a {
+        Operand::Known(a) => operate_between(alloc, operator, a, b),
+        Operand::Made(a) => operate_from(alloc, operator, a, b),
+    }
+}
+
+// The same where the second value was made for it: a multiple of it is made of it.
+fn operate_onto(
+    alloc: Global,
+    operator: Operator,
+    a: Operand<'_>,
     b: Value,
 ) -> Result<Value, EvaluationRefusal>
-    ensures { OrMemory (Operates operator a b) result }
+    ensures { OrMemory (Operates operator (held a.entry) b) result }
 {
-    if operator == Operator::Times && a.rank() == 0 {
-        return told_of(times_onto(alloc, &a, b));
+    if operator == Operator::Times && a.value().rank() == 0 {
+        return told_of(times_onto(alloc, a.value(), b));
     }
-    operate(alloc, operator, a, &b)
+    operate_on(alloc, operator, a, &b)
 }
 
-// The first operand of a sum, with its sign. It takes no memory.
-fn with_sign(minus: bool, a: Value) -> Value
-    ensures { Signs minus (Ok a) (Ok result) }
-{
-    if minus { negated(a) } else { a }
-}
-
-// The operation with an operand that is evaluated now. The value of a name is not copied.
-#[cycle(evaluation)]
-fn apply(
+// One operation.
+fn operate(
     alloc: Global,
-    names: &Names,
     operator: Operator,
-    a: Value,
-    x: &Expr,
+    a: Operand<'_>,
+    b: Operand<'_>,
 ) -> Result<Value, EvaluationRefusal>
-    requires { IsBuilt x.now }
-    ensures { OrMemory (TakesStep names.now operator a x.now) result }
+    ensures { OrMemory (Operates operator (held a.entry) (held b.entry)) result }
 {
-    if let Expr::Named(name) = x {
-        return match names.get(name.as_slice()) {
-            Some(b) => operate(alloc, operator, a, b),
-            None => Err(unknown(alloc, name)),
-        };
+    match b {
+        Operand::Known(b) => operate_on(alloc, operator, a, b),
+        Operand::Made(b) => operate_onto(alloc, operator, a, b),
     }
-    let b = value_of(alloc, names, x)?;
-    operate_on(alloc, operator, a, b)
 }
 
-// The first part of a sum, with its sign.
-#[cycle(evaluation)]
-fn first_of_sum(alloc: Global, names: &Names, part: &Signed) -> Result<Value, EvaluationRefusal>
-    requires { IsBuilt part.now.value }
-    ensures { OrMemory (Begins names.now part.now) result }
+// The value of an operand with the other sign.
+fn opposite(alloc: Global, a: Operand<'_>) -> Result<Value, EvaluationRefusal>
+    ensures { OrMemory (Signs true (Ok (held a.entry))) result }
 {
-    let value = value_of(alloc, names, &part.value)?;
-    Ok(with_sign(part.minus, value))
+    match a {
+        Operand::Known(a) => told_of(negate(alloc, a)),
+        Operand::Made(a) => Ok(negated(a)),
+    }
 }
 
-// A sum with one more part.
-#[cycle(evaluation)]
-fn with_part(
+// The first operand, with its sign.
+fn with_sign<'a>(
     alloc: Global,
-    names: &Names,
-    sum: Value,
-    part: &Signed,
-) -> Result<Value, EvaluationRefusal>
-    requires { IsBuilt part.now.value }
-    ensures { OrMemory (TakesStep names.now (if part.now.minus then Operator.Minus else Operator.Plus) sum part.now.value) result }
+    sign: Operator,
+    a: Operand<'a>,
+) -> Result<Operand<'a>, EvaluationRefusal>
+    ensures { OrMemory (Signs (is_minus sign) (Ok (held a.entry))) (answer_of result) }
+{
+    match sign {
+        Operator::Minus => {
+            let value = opposite(alloc, a)?;
+            Ok(Operand::Made(value))
+        }
+        _ => Ok(a),
+    }
+}
+
+// How many operands a sum, a tensor product or a product has: each is a step of its evaluation.
+fn count_of_steps(x: &Expr) -> usize
+    ensures { result ≡ length (steps_of x.now) }
+{
+    match x {
+        Expr::Sum(parts) => parts.as_slice().len(),
+        Expr::Tensor(parts) => parts.as_slice().len(),
+        Expr::Product(parts) => parts.as_slice().len(),
+        _ => 0,
+    }
+}
+
+// A part of a sum, and its sign as the operation before it.
+fn step_of_part(part: &Signed) -> (Operator, &Expr)
+    ensures operator { result.0 ≡ (if part.now.minus then Operator.Minus else Operator.Plus) }
+    ensures operand { result.1.now ≡ part.now.value }
 {
     let operator = if part.minus {
         Operator::Minus
     } else {
         Operator::Plus
     };
-    apply(alloc, names, operator, sum, &part.value)
+    (operator, &part.value)
 }
 
-// The value of a sum.
-#[cycle(evaluation)]
-fn value_of_sum(alloc: Global, names: &Names, parts: &[Signed]) -> Result<Value, EvaluationRefusal>
-    requires { IsBuilt (Expr.Sum parts.now) }
-    ensures { OrMemory (Evaluates names.now (Expr.Sum parts.now)) result }
-{
-    let mut sum = first_of_sum(alloc, names, &parts[0])?;
-    for i in 1..parts.len() {
-        sum = with_part(alloc, names, sum, &parts[i])?;
-    }
-    Ok(sum)
-}
-
-// The value of a tensor product.
-#[cycle(evaluation)]
-fn value_of_tensor(alloc: Global, names: &Names, parts: &[Expr]) -> Result<Value, EvaluationRefusal>
-    requires { IsBuilt (Expr.Tensor parts.now) }
-    ensures { OrMemory (Evaluates names.now (Expr.Tensor parts.now)) result }
-{
-    let mut tensor = value_of(alloc, names, &parts[0])?;
-    for i in 1..parts.len() {
-        tensor = apply(alloc, names, Operator::Hash, tensor, &parts[i])?;
-    }
-    Ok(tensor)
-}
-
-// The first factor of a product.
-#[cycle(evaluation)]
-fn first_of_product(alloc: Global, names: &Names, part: &Factor) -> Result<Value, EvaluationRefusal>
-    requires { IsBuilt part.now.value }
-    ensures { OrMemory (Evaluates names.now part.now.value) result }
-{
-    value_of(alloc, names, &part.value)
-}
-
-// A product with one more factor or divisor.
-#[cycle(evaluation)]
-fn with_factor(
-    alloc: Global,
-    names: &Names,
-    product: Value,
-    part: &Factor,
-) -> Result<Value, EvaluationRefusal>
-    requires { IsBuilt part.now.value }
-    ensures { OrMemory (TakesStep names.now (if part.now.divides then Operator.Over else Operator.Times) product part.now.value) result }
+// A factor or a divisor, and the operation before it.
+fn step_of_factor(part: &Factor) -> (Operator, &Expr)
+    ensures operator { result.0 ≡ (if part.now.divides then Operator.Over else Operator.Times) }
+    ensures operand { result.1.now ≡ part.now.value }
 {
     let operator = if part.divides {
         Operator::Over
     } else {
         Operator::Times
     };
-    apply(alloc, names, operator, product, &part.value)
+    (operator, &part.value)
 }
 
-// The value of a product.
-#[cycle(evaluation)]
-fn value_of_product(
-    alloc: Global,
-    names: &Names,
-    parts: &[Factor],
-) -> Result<Value, EvaluationRefusal>
-    requires { IsBuilt (Expr.Product parts.now) }
-    ensures { OrMemory (Evaluates names.now (Expr.Product parts.now)) result }
+// An operand, and the operation before it; only in a sum the first one's counts, as its sign.
+fn step_at(x: &Expr, i: usize) -> (Operator, &Expr)
+    requires { i < length (steps_of x.now) }
+    ensures step { drop i (steps_of x.now) ≡ (result.0, result.1.now) ∷ drop (i + 1) (steps_of x.now) }
+    ensures smaller { size-Expr result.1.now < size-Expr x.now }
 {
-    let mut product = first_of_product(alloc, names, &parts[0])?;
-    for i in 1..parts.len() {
-        product = with_factor(alloc, names, product, &parts[i])?;
+    match x {
+        Expr::Sum(parts) => step_of_part(&parts.as_slice()[i]),
+        Expr::Tensor(parts) => (Operator::Hash, &parts.as_slice()[i]),
+        Expr::Product(parts) => step_of_factor(&parts.as_slice()[i]),
+        _ => unreachable!(),
     }
-    Ok(product)
+}
+
+// An expression, evaluated as an operand. The value of a name is not copied.
+#[cycle(evaluation)]
+fn operand_of<'a>(
+    alloc: Global,
+    names: &'a Names,
+    x: &Expr,
+) -> Result<Operand<'a>, EvaluationRefusal>
+    requires { IsBuilt x.now }
+    ensures { OrMemory (Evaluates names.now x.now) (answer_of result) }
+{
+    if let Expr::Named(name) = x {
+        return named(alloc, names, name);
+    }
+    let value = value_of(alloc, names, x)?;
+    Ok(Operand::Made(value))
+}
+
+// The value of a sum, a tensor product or a product.
+#[cycle(evaluation)]
+fn value_of_operation(alloc: Global, names: &Names, x: &Expr) -> Result<Value, EvaluationRefusal>
+    requires built { IsBuilt x.now }
+    requires some { 0 < length (steps_of x.now) }
+    ensures { OrMemory (Evaluates names.now x.now) result }
+{
+    let (sign, y) = step_at(x, 0);
+    let first = operand_of(alloc, names, y)?;
+    let mut value = with_sign(alloc, sign, first)?;
+    for i in 1..count_of_steps(x) {
+        let (operator, y) = step_at(x, i);
+        let next = operand_of(alloc, names, y)?;
+        value = Operand::Made(operate(alloc, operator, value, next)?);
+    }
+    value.owned(alloc)
 }
 
 /// The value of an expression, or the refusal that comes first. Operands are evaluated from left to
-/// right, each just before its operation.
+/// right, each just before its operation. The value of a name is copied only where no operation is.
 #[cycle(evaluation)]
 pub fn value_of(alloc: Global, names: &Names, x: &Expr) -> Result<Value, EvaluationRefusal>
     requires { IsBuilt x.now }
@@ -230,9 +304,7 @@ pub fn value_of(alloc: Global, names: &Names, x: &Expr) -> Result<Value, Evaluat
         Expr::Number(number) => value_of_number(alloc, *number),
         Expr::Element(basis, items) => value_of_element(alloc, *basis, items.as_slice()),
         Expr::Named(name) => value_of_name(alloc, names, name),
-        Expr::Sum(parts) => value_of_sum(alloc, names, parts.as_slice()),
-        Expr::Tensor(parts) => value_of_tensor(alloc, names, parts.as_slice()),
-        Expr::Product(parts) => value_of_product(alloc, names, parts.as_slice()),
+        Expr::Sum(_) | Expr::Tensor(_) | Expr::Product(_) => value_of_operation(alloc, names, x),
         _ => unreachable!(),
     }
 }

@@ -1,7 +1,7 @@
 use Rattle.session_evaluation.specs.declared.operator.Operator.TheVariants.{Plus, Minus, Hash, Times, Over}
 use Rattle.session_evaluation.proofs.Operations.{lcm_exists, operated_as}
-use Rattle.session_evaluation.proofs.evaluation.operate.Goals.{in-Plus, in-Minus, in-Hash, in-Times, in-Over}
-use Rattle.session_evaluation.proofs.evaluation.operate.Goals as goal
+use Rattle.session_evaluation.proofs.evaluation.operate_from.Goals.{in-Plus, in-Minus, in-Hash, in-Times, in-Over}
+use Rattle.session_evaluation.proofs.evaluation.operate_from.Goals as goal
 
 pub returns : goal.returns
 returns c =
