@@ -1,22 +1,20 @@
 -- The tokens of the text of an index stand for the lexemes of its spelling.
-use Rattle.std.proofs.Common.{◌≡◌, ℕ, zero, suc, ◌+◌, ◌-◌, ◌^◌, ◌<◌, ◌≤◌, true, false, List, [], ◌∷◌, ◌++◌, map, length, take, drop, refl, sym, ◌∙◌, ap, subst, arith, append_assoc, append-nil}
-use Rattle.std.specs.Prelude.{codes, min, ◌||◌}
+use Rattle.std.proofs.Common.{◌≡◌, ℕ, suc, ◌+◌, ◌-◌, ◌^◌, ◌<◌, ◌≤◌, true, false, List, [], ◌∷◌, ◌++◌, map, length, take, drop, refl, sym, ◌∙◌, ap, subst, arith, append_assoc}
+use Rattle.std.specs.Prelude.{codes, min}
 use Rattle.std.specs.Fmt.{decimal}
 use Rattle.std.specs.List.{AllByRecursion, list_all}
 use Rattle.std.proofs.lemmas.List.{drop-drop}
 use Rattle.std.proofs.Math.Seq.{drop-append_seam, take-append_seam}
 use Rattle.std.proofs.lemmas.Bool.{and_parts}
 use Rattle.std.proofs.lemmas.Bool.Decides.{nat_tests}
-use Rattle.linear_combos.specs.Codes.{IsCode}
 use Rattle.realisations.specs.Trees.{Tree, empty, node}
 use Rattle.session_tokens.specs.declared.lexeme.Lexeme.{Lexeme}
 use Rattle.session_tokens.specs.declared.lexeme.Lexeme.TheVariants as lex
 use Rattle.session_tokens.specs.declared.token.Kind.{Kind}
 use Rattle.session_tokens.specs.declared.token.Kind.TheVariants as kind
 use Rattle.session_tokens.specs.declared.token.Token.{Token}
-use Rattle.session_tokens.specs.Lexemes.{bytes_of, lexeme_of, lexemes_of, number_from, sign_of_byte}
+use Rattle.session_tokens.specs.Lexemes.{bytes_of, lexeme_of, lexemes_of, number_from}
 use Rattle.session_tokens.specs.Tokens.{AreTokens, at_end, next, digit_run, first_token, is_blank, is_digit, is_letter, is_word_byte, sized, token, word_run}
-use Rattle.session_tokens.proofs.TokenSteps.{tokens_once}
 use Rattle.index_spellings.specs.Spellings.{list_with, number_items, row_items, tree_items}
 use Rattle.index_spellings.specs.Texts.{comma_separated, list_text, rows_text, tree_text}
 use Rattle.index_spellings.proofs.DecimalDigits.{AreDigits, StartsWithNoDigit, decimal_is, digit_run-digits}

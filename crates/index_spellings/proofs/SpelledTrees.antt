@@ -1,9 +1,9 @@
 -- The trees that lists spell, and their codes.
-use Rattle.std.proofs.Common.{◌≡◌, ℕ, zero, suc, ◌+◌, ◌-◌, ◌<◌, ◌≤◌, Bool, true, false, List, [], ◌∷◌, ◌++◌, Option, Some, None, length, get_or, drop, refl, sym, ◌∙◌, ap, arith, if◌then◌else◌}
+use Rattle.std.proofs.Common.{◌≡◌, ℕ, zero, suc, ◌+◌, ◌-◌, ◌≤◌, Bool, true, false, List, [], ◌∷◌, ◌++◌, Option, Some, None, length, refl, sym, ◌∙◌, ap, arith, if◌then◌else◌}
 use Rattle.std.specs.Prelude.{nat_le, nat_lt}
 use Rattle.std.proofs.lemmas.Bool.Decides.{nat_tests}
 use Rattle.realisations.specs.Codes.{Code}
-use Rattle.realisations.specs.Trees.{Tree, empty, node, tree_size, tree_code}
+use Rattle.realisations.specs.Trees.{Tree, tree_size, tree_code}
 use Rattle.basis_representatives.proofs.TreeCodes.{length-tree_code}
 use Rattle.session_grammar.specs.Grammar.{inside}
 use Rattle.session_tokens.specs.declared.lexeme.Lexeme.{Lexeme}

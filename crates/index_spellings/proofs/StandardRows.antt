@@ -1,5 +1,5 @@
 -- Standard tableaux that are kept: their rows and their codes have room.
-use Rattle.std.proofs.Common.{◌≡◌, ℕ, zero, suc, ◌+◌, ◌-◌, ◌<◌, ◌≤◌, true, List, [], ◌∷◌, ◌++◌, length, get_or, sym, ◌∙◌, arith, inl, inr}
+use Rattle.std.proofs.Common.{◌≡◌, ℕ, ◌+◌, ◌-◌, ◌<◌, ◌≤◌, List, [], ◌∷◌, length, get_or, sym, ◌∙◌, arith, inl, inr}
 use Rattle.std.specs.Prelude.{IsTrue}
 use Rattle.std.specs.List.{AllByRecursion, concat}
 use Rattle.std.proofs.lemmas.Bool.{and_parts, cases_lt}
@@ -9,7 +9,6 @@ use Rattle.linear_combos.specs.Codes.{IsCode}
 use Rattle.realisations.specs.Standardisation.{count_same}
 use Rattle.realisations.specs.Tableaux.{is_increasing, row_of, tableau_code}
 use Rattle.realisations.specs.IndexKinds.{is_permutation, is_standard_tableau}
-use Rattle.realisations.proofs.RisingMaps.{Letters}
 use Rattle.basis_representatives.proofs.Counts.{count_same-append}
 use Rattle.basis_representatives.proofs.Letters.{Letters-values}
 use Rattle.basis_representatives.proofs.Permutations.{HasEachOnce, each_once, letters-permutation, letters_that_occur}

@@ -7,7 +7,7 @@ use Rattle.realisations.specs.Bases.{index_kind_of}
 use Rattle.realisations.specs.Codes.{Code}
 use Rattle.realisations.specs.IndexKinds.{IndexKind, by_composition, by_permutation, by_packed_word, by_tableau, by_tree, is_permutation, is_packed, is_standard_tableau}
 use Rattle.realisations.specs.Tableaux.{tableau_code}
-use Rattle.realisations.specs.Trees.{Tree, tree_size, tree_code}
+use Rattle.realisations.specs.Trees.{tree_size, tree_code}
 use Rattle.session_tokens.specs.declared.lexeme.Lexeme.{Lexeme}
 use Rattle.session_tokens.specs.declared.lexeme.Lexeme.TheVariants as lex
 use Rattle.session_grammar.specs.Grammar.{inside}
@@ -36,6 +36,7 @@ index_by by_tree limit items = code_within limit (λ tree. true) tree_size tree_
 abbrev pub index_in : BasisId → List Lexeme → Option Code
 index_in basis items = index_by (index_kind_of basis) (limit_of (algebra_of basis)) items
 
+-- there is no code
 abbrev pub is_nothing : Option (List ℕ) → Bool
 is_nothing None = true
 is_nothing (Some code) = false

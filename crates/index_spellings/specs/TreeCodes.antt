@@ -1,5 +1,5 @@
 -- Nothing here need be believed: codes of trees within a limit, as they are put together.
-use Rattle.std.specs.Prelude.{ℕ, suc, ◌+◌, true, nat_lt, if◌then◌else◌, List, ◌∷◌, ◌++◌, length, Option, Some, None}
+use Rattle.std.specs.Prelude.{ℕ, suc, ◌+◌, true, nat_lt, if◌then◌else◌, ◌∷◌, ◌++◌, length, Option, Some, None}
 use Rattle.realisations.specs.Codes.{Code}
 use Rattle.realisations.specs.Trees.{Tree, tree_size, tree_code}
 use Rattle.index_spellings.specs.Indices.{code_within}

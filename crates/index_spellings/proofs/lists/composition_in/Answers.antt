@@ -1,4 +1,4 @@
-use Rattle.std.proofs.Common.{◌≡◌, ◌≤◌, ◌∙◌, arith}
+use Rattle.std.proofs.Common.{◌≤◌, ◌∙◌, arith}
 use Rattle.std.specs.List.{sum}
 use Rattle.compositions.proofs.Parts.{composition_from_letters, code_from_composition}
 use Rattle.index_spellings.specs.Indices.{all_positive}

@@ -1,9 +1,9 @@
-use Rattle.std.proofs.Common.{◌≡◌, ◌≤◌, ◌∙◌, length, arith}
+use Rattle.std.proofs.Common.{◌∙◌, length, arith}
 use Rattle.realisations.specs.IndexKinds.{is_packed}
 use Rattle.packed_words.proofs.PackedCodes.{IsCode-packed}
 use Rattle.basis_representatives.proofs.PackedWords.{all_letters}
 use Rattle.index_spellings.specs.Items.{numbers_in}
-use Rattle.index_spellings.proofs.Spellings.{code-spelled, nothing-spelled}
+use Rattle.index_spellings.proofs.Spellings.{nothing-spelled}
 use Rattle.index_spellings.proofs.lists.packed_word_in.Goals as goal
 
 pub returns-in_err-code : goal.returns-in_err-code

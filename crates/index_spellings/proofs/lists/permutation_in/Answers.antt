@@ -1,9 +1,9 @@
-use Rattle.std.proofs.Common.{◌≡◌, ◌≤◌, ◌∙◌, length, arith}
+use Rattle.std.proofs.Common.{◌∙◌, length, arith}
 use Rattle.realisations.specs.IndexKinds.{is_permutation}
 use Rattle.permutation_words.proofs.Codes.{IsCode-permutation}
 use Rattle.basis_representatives.proofs.Permutations.{each_once}
 use Rattle.index_spellings.specs.Items.{numbers_in}
-use Rattle.index_spellings.proofs.Spellings.{code-spelled, nothing-spelled}
+use Rattle.index_spellings.proofs.Spellings.{nothing-spelled}
 use Rattle.index_spellings.proofs.lists.permutation_in.Goals as goal
 
 pub returns-in_err-code : goal.returns-in_err-code

@@ -1,4 +1,4 @@
-use Rattle.std.proofs.Common.{◌≡◌, ◌+◌, ◌-◌, ◌≤◌, ℕ, List, length, arith, ◌∙◌}
+use Rattle.std.proofs.Common.{◌+◌, ◌-◌, ℕ, List, arith, ◌∙◌}
 use Rattle.realisations.specs.Tableaux.{tableau_code}
 use Rattle.permutation_words.proofs.Building.{next_code, next_front, whole_front}
 use Rattle.index_spellings.proofs.StandardRows.{IsCode-tableau, few_rows, length-tableau_code, row_at}

@@ -1,4 +1,4 @@
-use Rattle.std.proofs.Common.{◌≡◌, ◌∙◌, true, sym, arith}
+use Rattle.std.proofs.Common.{◌≡◌, ◌∙◌, true, sym}
 use Rattle.index_spellings.specs.KeptRows.{is_rising}
 use Rattle.index_spellings.proofs.RowTests.{no_row_left, row_falls, row_not_below, rows_left}
 use Rattle.index_spellings.proofs.rows.is_increasing.Goals as goal

@@ -1,8 +1,7 @@
-use Rattle.std.proofs.Common.{◌≡◌, ◌++◌, ◌∷◌, [], ◌∙◌, ◌<◌, ℕ, List, length, take, true, sym, subst, arith, rules}
+use Rattle.std.proofs.Common.{◌<◌, ℕ, List, length, take, arith, rules}
 use Rattle.std.proofs.lemmas.List.{take_more_set}
-use Rattle.linear_combos.specs.Codes.{IsCode}
 use Rattle.session_tokens.specs.declared.lexeme.Lexeme.{Lexeme}
-use Rattle.index_spellings.proofs.RowsRead.{IsSoFar, no_room, after_comma, after_opening, after_number, after_closing}
+use Rattle.index_spellings.proofs.RowsRead.{no_room, after_comma, after_opening, after_number, after_closing}
 use Rattle.index_spellings.proofs.rows.rows_in.Goals as goal
 use Rattle.index_spellings.proofs.rows.rows_in.Goals.{in-Comma, in-LeftBracket+else-is_open, in-Number+else-not-is_open+else-not-has_room_for, in-RightBracket+else-not-is_open-2+else-len-eq-MOST}
 

@@ -1,4 +1,4 @@
-use Rattle.std.proofs.Common.{◌<◌, ◌≤◌, ◌≡◌, ◌+◌, ◌-◌, ◌++◌, ℕ, List, length, map, arith}
+use Rattle.std.proofs.Common.{◌+◌, ◌-◌, ◌++◌, ℕ, List, map, arith}
 use Rattle.realisations.specs.Tableaux.{rows_of}
 use Rattle.index_spellings.specs.Texts.{comma_separated, list_text}
 use Rattle.index_spellings.proofs.TextsInTurn.{first_text, next_text, no_text}

@@ -1,4 +1,4 @@
-use Rattle.std.proofs.Common.{◌≡◌, ◌≤◌, length, refl, ◌∙◌, arith}
+use Rattle.std.proofs.Common.{refl, ◌∙◌, arith}
 use Rattle.index_spellings.specs.Items.{after_list}
 use Rattle.index_spellings.proofs.SpelledTrees.{both_spelled, left_none, no_list, right_none, second_none}
 use Rattle.index_spellings.proofs.trees.+tree_within.Goals as goal
