@@ -5,8 +5,10 @@ pub mod ReadBack
 pub mod RowTests
 pub mod RowsOfCodes
 pub mod RowsRead
+pub mod SpelledLists
 pub mod SpelledTokens
 pub mod SpelledTrees
 pub mod Spellings
 pub mod StandardRows
 pub mod TextsInTurn
+pub mod TreeItems

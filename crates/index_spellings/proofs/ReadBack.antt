@@ -18,7 +18,9 @@ use Rattle.index_spellings.specs.Indices.{all_positive, index_by}
 use Rattle.index_spellings.specs.Laws.{SpellingLaw}
 use Rattle.index_spellings.specs.Spellings.{items_by, number_items, row_items, tree_items}
 use Rattle.index_spellings.proofs.Spellings.{code-spelled, composition-positive, positive-composition, spelled-passes}
+use Rattle.index_spellings.proofs.SpelledLists.{ends, is_list}
 use Rattle.index_spellings.proofs.StandardRows.{length-tableau_code}
+use Rattle.index_spellings.proofs.TreeItems.{after-items, inside-items, node_items}
 
 -- numbers
 
@@ -42,31 +44,6 @@ rows_in-items (row ∷ next ∷ rows) =
     ∙ row_in-items row (lex.Comma ∷ row_items (next ∷ rows)) (next ∷ rows) (rows_in-items (next ∷ rows))
 
 -- trees
-
--- the lexemes of a node, and others behind them
-node_items : (l r : Tree) (ts : List Lexeme) → tree_items (node l r) ++ ts ≡ lex.LeftBracket ∷ (tree_items l ++ (lex.RightBracket ∷ lex.Comma ∷ lex.LeftBracket ∷ (tree_items r ++ (lex.RightBracket ∷ ts))))
-node_items l r ts =
-    let second : List Lexeme = lex.Comma ∷ lex.LeftBracket ∷ (tree_items r ++ (lex.RightBracket ∷ [])) in
-    ap (λ us. lex.LeftBracket ∷ us)
-    (append_assoc (tree_items l ++ (lex.RightBracket ∷ [])) second ts
-    ∙ append_assoc (tree_items l) (lex.RightBracket ∷ []) (second ++ ts)
-    ∙ ap (λ us. tree_items l ++ (lex.RightBracket ∷ lex.Comma ∷ lex.LeftBracket ∷ us)) (append_assoc (tree_items r) (lex.RightBracket ∷ []) ts))
-
-inside-items : (t : Tree) (depth : ℕ) (ts : List Lexeme) → inside depth (tree_items t ++ ts) ≡ tree_items t ++ inside depth ts
-inside-items empty depth ts = refl
-inside-items (node l r) depth ts =
-    let left = inside-items l (suc depth) (lex.RightBracket ∷ lex.Comma ∷ lex.LeftBracket ∷ (tree_items r ++ (lex.RightBracket ∷ ts))) in
-    let right = inside-items r (suc depth) (lex.RightBracket ∷ ts) in
-    ap (inside depth) (node_items l r ts)
-    ∙ ap (λ us. lex.LeftBracket ∷ us) (left ∙ ap (λ us. tree_items l ++ (lex.RightBracket ∷ lex.Comma ∷ lex.LeftBracket ∷ us)) right)
-    ∙ sym (node_items l r (inside depth ts))
-
-after-items : (t : Tree) (depth : ℕ) (ts : List Lexeme) → after_list depth (tree_items t ++ ts) ≡ after_list depth ts
-after-items empty depth ts = refl
-after-items (node l r) depth ts =
-    ap (after_list depth) (node_items l r ts)
-    ∙ after-items l (suc depth) (lex.RightBracket ∷ lex.Comma ∷ lex.LeftBracket ∷ (tree_items r ++ (lex.RightBracket ∷ ts)))
-    ∙ after-items r (suc depth) (lex.RightBracket ∷ ts)
 
 tree_in-items : (levels : ℕ) (t : Tree) → tree_size t ≤ levels → tree_in levels (tree_items t) ≡ Some t
 tree_in-items zero empty le = refl
@@ -130,4 +107,6 @@ pub spellings : SpellingLaw
 spellings = record {
   read_back = λ basis code h. read_back_by (index_kind_of basis) (limit_of (algebra_of basis)) code h.0 h.1;
   index = λ basis items code e. index_of_kind (index_kind_of basis) (limit_of (algebra_of basis)) items code e;
+  is_list = λ basis code ts. is_list (index_kind_of basis) code ts;
+  ends = λ basis code ts. ends (index_kind_of basis) code ts;
 }

@@ -73,9 +73,6 @@ abbrev pub IsSoFar : List Lexeme → List (List ℕ) → Bool → List ℕ → �
 IsSoFar items closed is_open row i = rows_in items ≡ behind_rows closed (rest_of is_open row (drop i items))
 
 module _ (items : List Lexeme) (closed : List (List ℕ)) (is_open : Bool) (row : List ℕ) (i : ℕ) (t u : Lexeme) (lt : i < length items) (at : t ≡ get_or items i t) (is : t ≡ u) (so_far : IsSoFar items closed is_open row i) where
-  rest : List Lexeme
-  rest = drop (i + 1) items
-
   front : drop i items ≡ u ∷ drop (i + 1) items
   front = let step : suc i ≡ i + 1 = omega arith in
       drop-cons items i t lt ∙ ap (λ v. v ∷ drop (suc i) items) (sym at ∙ is) ∙ ap (λ n. u ∷ drop n items) step
@@ -115,15 +112,3 @@ module _ (items : List Lexeme) (closed : List (List ℕ)) (row : List ℕ) (i : 
       in_some (Some (r ∷ more)) e =
           let same : rows ≡ closed ++ ((row ++ n ∷ []) ++ r) ∷ more = cc in
           none (front_code (row ++ n ∷ []) r (row_code closed ((row ++ n ∷ []) ++ r) more (subst (λ s. AllByRecursion IsCode s) same kept.are_codes)))
-
-  -- a row too many
-  pub no_row_more : (is_open : Bool) → is_open ≡ true → t ≡ lex.RightBracket → IsSoFar items closed is_open row i → 12 ≤ length closed
-      → (rows : List (List ℕ)) → rows_in items ≡ Some rows → AreKept rows → ⊥
-  no_row_more is_open e is h many rows spelled kept =
-      in_some (rows_in (drop (i + 1) items)) (sym spelled ∙ after_closing is_open e is h)
-    where
-      in_some : (o : Option (List (List ℕ))) → Some rows ≡ behind_rows (closed ++ row ∷ []) o → ⊥
-      in_some None e = cc
-      in_some (Some more) e =
-          let same : rows ≡ (closed ++ row ∷ []) ++ more = cc in
-          omega (arith, kept.few, ap length same, length-append (closed ++ row ∷ []) more, length-append closed (row ∷ []), many)

@@ -36,6 +36,7 @@ index_by by_tree limit items = code_within limit (λ tree. true) tree_size tree_
 abbrev pub index_in : BasisId → List Lexeme → Option Code
 index_in basis items = index_by (index_kind_of basis) (limit_of (algebra_of basis)) items
 
+-- there is no code
 abbrev pub is_nothing : Option (List ℕ) → Bool
 is_nothing None = true
 is_nothing (Some code) = false

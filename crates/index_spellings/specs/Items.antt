@@ -58,11 +58,12 @@ node_over None right = None
 node_over (Some l) None = None
 node_over (Some l) (Some r) = Some (node l r)
 
--- the second list of a pair, behind the first one: its lexemes, where nothing stands behind it
+-- the items of a list behind which nothing stands
 abbrev pub only_list : List Lexeme → List Lexeme → Option (List Lexeme)
 only_list items [] = Some items
 only_list items (t ∷ ts) = None
 
+-- the items of the second list of a pair, from behind the first one on: a comma, a list, and nothing more
 abbrev pub second_list : List Lexeme → Option (List Lexeme)
 second_list (lex.Comma ∷ lex.LeftBracket ∷ ts) = only_list (inside 0 ts) (after_list 0 ts)
 second_list _ = None

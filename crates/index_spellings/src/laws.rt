@@ -2,7 +2,8 @@
 ghost use Rattle.index_spellings.specs.Laws.{ElementTextLaw, SpellingLaw};
 
 /// Each index of a basis within the degree limit of its algebra is read back from the items of its
-/// spelling, and what a list spells is such an index.
+/// spelling, and what a list spells is such an index. These items are a list of the grammar, which ends at
+/// the bracket behind them.
 ///
 /// Nothing is computed: callers cite the clause.
 pub fn spelling_law()

@@ -66,6 +66,35 @@ fn elements(rt: HostRuntime) -> Result<(), Fail> {
     Ok(())
 }
 
+/// Whether the element of a basis with the index of this code prints this text.
+fn prints_index(alloc: Global, basis: BasisId, letters: &[u8], text: &[u8]) -> Result<bool, Fail> {
+    let code = Code::new(letters).ok_or("no code")?;
+    let mut out = Bytes::new(alloc);
+    print_index(alloc, basis, &code, &mut out)?;
+    Ok(out.as_slice() == text)
+}
+
+/// Elements with indices of each kind.
+#[test]
+fn kinds_of_indices(rt: HostRuntime) -> Result<(), Fail> {
+    let rows: [(BasisId, &[u8], &[u8]); 10] = [
+        (BasisId::NcsfS, &[2, 1], b"NCSF.S[2,1]"),
+        (BasisId::FqsymF, &[2, 3, 1], b"FQSym.F[2,3,1]"),
+        (BasisId::WqsymM, &[1, 2, 1], b"WQSym.M[1,2,1]"),
+        (BasisId::FsymS, &[1, 1, 2], b"FSym.S[[1,2],[3]]"),
+        (BasisId::FsymS, &[1, 2], b"FSym.S[[1],[2]]"),
+        (BasisId::FsymS, &[], b"FSym.S[]"),
+        (BasisId::PbtP, &[], b"PBT.P[]"),
+        (BasisId::PbtP, &[1], b"PBT.P[[],[]]"),
+        (BasisId::PbtP, &[2, 1], b"PBT.P[[],[[],[]]]"),
+        (BasisId::PbtP, &[1, 2, 1], b"PBT.P[[[],[]],[[],[]]]"),
+    ];
+    for (basis, letters, text) in rows {
+        assert!(rt; prints_index(rt.alloc(), basis, letters, text)?);
+    }
+    Ok(())
+}
+
 /// A basis element is appended to what was there.
 #[test]
 fn elements_are_appended(rt: HostRuntime) -> Result<(), Fail> {
