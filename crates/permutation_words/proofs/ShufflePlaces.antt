@@ -2,6 +2,7 @@
 use Rattle.std.proofs.Common.{◌≡◌, ℕ, suc, ◌+◌, ◌-◌, List, [], ◌∷◌, ◌++◌, length, map, refl, sym, ◌∙◌, ap, arith, append_assoc, append-nil, length-append}
 use Rattle.std.specs.Prelude.{flat_map, insert}
 use Rattle.std.proofs.lemmas.List.{map-append}
+use Rattle.std.proofs.lemmas.List.Edits.{insert-append_left, insert_end}
 use Rattle.itertools.specs.Odometer.{numbers, ways}
 use Rattle.itertools.specs.Pool.{ascending_low, ascending_high}
 use Rattle.itertools.proofs.PoolLemmas.{ascending_low-more}
@@ -36,8 +37,7 @@ shuffles-nil [] = refl
 shuffles-nil (x ∷ a) = refl
 
 insert_behind : (word b : List ℕ) (x : ℕ) → insert (word ++ b) (length word) x ≡ (word ++ x ∷ []) ++ b
-insert_behind [] b x = refl
-insert_behind (y ∷ word) b x = ap (λ w. y ∷ w) (insert_behind word b x)
+insert_behind word b x = insert-append_left word b (length word) x (omega arith) ∙ ap (λ w. w ++ b) (insert_end word x)
 
 -- the lists of places that begin with the place behind a word put the first letter there
 first_at : (word a b : List ℕ) (x d : ℕ) → d ≡ length word → (ds : List (List ℕ))
