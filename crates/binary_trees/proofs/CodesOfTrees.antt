@@ -77,10 +77,6 @@ letters-drop (suc n) (x ∷ u) h = letters-drop n u (rest (nat_le 1 x && nat_le 
 pub letters-take : (n : ℕ) (u : List ℕ) → all_letters u ≡ true → all_letters (take n u) ≡ true
 letters-take n u h = letters-front (take n u) (drop n u) (ap all_letters (take-append-drop n u) ∙ h)
 
--- a code and letters behind it, cut after the first letters
-pub code_to_cut : (u v : List ℕ) → IsCode (u ++ v) → IsCode u
-code_to_cut u v h = record { short = omega (arith, h.short, length-append u v); letters = letters-front u v h.letters }
-
 -- the same by the code
 pub code_of_tree_code : (code : List ℕ) → IsTreeCode code → length code ≤ 15 → IsCode code
 code_of_tree_code code (t, is) le = subst IsCode is (code_of_tree t (omega (arith, le, length-tree_code t, ap (λ (c : List ℕ). length c) is)))

@@ -5,14 +5,12 @@ use Rattle.std.proofs.lemmas.List.{take_all}
 use Rattle.realisations.specs.Codes.{Code}
 use Rattle.realisations.specs.IndexKinds.{IsTreeCode}
 use Rattle.realisations.specs.Trees.{empty}
-use Rattle.linear_combos.specs.Codes.{IsCode}
 use Rattle.tree_laws.proofs.FirstNodes.{first_letter, front_is_tree, longer_is_tree, rest_is_tree}
 use Rattle.word_laws.specs.AddedCodes.{AddsEach, times_in}
 use Rattle.word_laws.proofs.AddedCodes.{adds_either, adds_more, adds_none, adds_one, adds_same}
 use Rattle.permutation_words.proofs.CanonicalOrder.{added_all, added_has, added_once, counted_at}
 use Rattle.binary_trees.specs.Places.{IsLonger, IsShorter}
 use Rattle.binary_trees.specs.Sizes.{IsTreeCodeOf}
-use Rattle.binary_trees.proofs.CodesOfTrees.{code_of_tree_code}
 
 -- longer codes with a first letter of at most a number
 abbrev pub IsLongerTo : ℕ → Code → Code → Type 0
@@ -75,11 +73,6 @@ longer_end code at old mid le adds = adds_same (IsLongerTo at code) (IsLonger co
     from : (w : Code) → IsLonger code w → IsLongerTo at code w
     from [] h = absurd (omega (arith, h.tree.1))
     from (k ∷ w) h = (h, omega (arith, le, (first_letter k w h.tree.0).1, ap (λ (v : Code). length v) h.rest))
-
--- a longer code is a code
-pub longer_code : (code : Code) (at : ℕ) → IsShorter code → at ≤ length code → IsTreeCode (take at code) → IsCode ((at + 1) ∷ code)
-longer_code code at short le front =
-    code_of_tree_code ((at + 1) ∷ code) (subst (λ k. IsTreeCode (k ∷ code)) (omega arith) (longer_is_tree at code le short.tree front)) (omega (arith, short.small))
 
 module _ (n : ℕ) (codes : List Code) (all : AddsEach (IsTreeCodeOf n) [] codes) where
   -- each of the codes is that of a tree of n nodes

@@ -22,7 +22,8 @@ fn codes_of_trees(rt: HostRuntime) -> Result<(), Fail> {
 /// The decreasing tree of 221, whose root is the last greatest letter.
 #[test]
 fn decreasing_tree_of_221(rt: HostRuntime) -> Result<(), Fail> {
-    let tree = decreasing_shape(rt.alloc(), &code(&[2, 2, 1])?)?;
+    let word = Code::new(&[2, 2, 1]).ok_or("no code")?;
+    let tree = decreasing_shape(rt.alloc(), &word)?;
     assert_eq!(rt; tree.code(), code(&[1, 2, 1])?);
     Ok(())
 }
@@ -40,6 +41,7 @@ fn search_tree_of_312(rt: HostRuntime) -> Result<(), Fail> {
 #[test]
 fn product_of_two_nodes(rt: HostRuntime) -> Result<(), Fail> {
     let one = Tree::from_code(rt.alloc(), &code(&[1])?)?.ok_or("no tree")?;
+    assert_eq!(rt; one.size(), 1);
     let wanted: [&[u8]; 2] = [&[1, 1], &[2, 1]];
     assert!(rt; are(&over(rt.alloc(), &one, &one)?, &wanted));
     assert!(rt; are(&list(rt.alloc(), 2)?, &wanted));

@@ -1,5 +1,5 @@
 -- Codes of trees by their first letter: the first node in infix order has a right subtree, and the rest is the code of a tree.
-use Rattle.std.proofs.Common.{◌≡◌, ℕ, zero, suc, ◌+◌, ◌≤◌, List, [], ◌∷◌, ◌++◌, length, take, drop, refl, sym, ◌∙◌, ap, subst, arith}
+use Rattle.std.proofs.Common.{◌≡◌, ℕ, zero, suc, ◌≤◌, List, [], ◌∷◌, ◌++◌, length, take, drop, refl, sym, ◌∙◌, ap, arith}
 use Rattle.std.proofs.lemmas.List.{append-nil, append_assoc, length-append, length-take, take-append-drop}
 use Rattle.realisations.specs.IndexKinds.{IsTreeCode}
 use Rattle.realisations.specs.Trees.{Tree, empty, node, tree_code, tree_size}
