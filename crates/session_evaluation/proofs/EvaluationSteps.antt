@@ -45,6 +45,16 @@ pub kept : (P : Answer → Type 0) (v : Expansion) (answer : Answer) → OrMemor
 kept P v answer h (inl memory) = inl memory
 kept P v answer h (inr is) = subst (OrMemory P) (sym is) h
 
+-- where it is not kept, memory wants
+pub wanting : (P : Answer → Type 0) (v : Expansion) (q : EvaluationRefusal) → OrMemory (λ r. r ≡ Ok v) (Err q) → OrMemory P (Err q)
+wanting P v q (inl memory) = inl memory
+wanting P v q (inr is) = absurd (cc)
+
+-- what is kept is the value
+pub kept_is : (v w : Expansion) → OrMemory (λ r. r ≡ Ok v) (Ok w) → w ≡ v
+kept_is v w (inl memory) = absurd (cc)
+kept_is v w (inr is) = cc
+
 not_memory : (P : Answer → Type 0) (a : Expansion) → OrMemory P (Ok a) → P (Ok a)
 not_memory P a (inl memory) = absurd (cc)
 not_memory P a (inr h) = h

@@ -17,6 +17,9 @@ use session_grammar::{Expr, Factor, Signed};
 use session_tokens::Name;
 use std::alloc::Global;
 
+// A value with at most so many terms is added to another one by a search for each of them.
+const FEW_TERMS: usize = 16;
+
 // A value to operate on: that of a name, which stays, or one that was made for the operation.
 #[derive(Drop)]
 enum Operand<'a> {
@@ -134,6 +137,16 @@ fn operate_from(
     })
 }
 
+// Whether what the operation answers is the first value with few changes, or a multiple of it: then
+// to change a copy of it is far less work than to operate on a value that stays.
+fn is_changed_copy(operator: Operator, b: &Value) -> bool {
+    match operator {
+        Operator::Plus | Operator::Minus => b.combo().len() <= FEW_TERMS,
+        Operator::Hash => false,
+        Operator::Times | Operator::Over => b.rank() == 0,
+    }
+}
+
 // The same on an operand and a value that stays.
 fn operate_on(
     alloc: Global,
@@ -143,28 +156,17 @@ fn operate_on(
 ) -> Result<Value, EvaluationRefusal>
     ensures { OrMemory (Operates operator (held a.entry) b.now) result }
 {
+    if is_changed_copy(operator, b) {
+        let first = a.owned(alloc)?;
+        return operate_from(alloc, operator, first, b);
+    }
     match a {
         Operand::Known(a) => operate_between(alloc, operator, a, b),
         Operand::Made(a) => operate_from(alloc, operator, a, b),
     }
 }
 
-// The same where the second value was made for it: a multiple of it is made of it.
-fn operate_onto(
-    alloc: Global,
-    operator: Operator,
-    a: Operand<'_>,
-    b: Value,
-) -> Result<Value, EvaluationRefusal>
-    ensures { OrMemory (Operates operator (held a.entry) b) result }
-{
-    if operator == Operator::Times && a.value().rank() == 0 {
-        return told_of(times_onto(alloc, a.value(), b));
-    }
-    operate_on(alloc, operator, a, &b)
-}
-
-// One operation.
+// One operation. A multiple of the second value is made of it, or of a copy.
 fn operate(
     alloc: Global,
     operator: Operator,
@@ -173,10 +175,11 @@ fn operate(
 ) -> Result<Value, EvaluationRefusal>
     ensures { OrMemory (Operates operator (held a.entry) (held b.entry)) result }
 {
-    match b {
-        Operand::Known(b) => operate_on(alloc, operator, a, b),
-        Operand::Made(b) => operate_onto(alloc, operator, a, b),
+    if operator == Operator::Times && a.value().rank() == 0 {
+        let second = b.owned(alloc)?;
+        return told_of(times_onto(alloc, a.value(), second));
     }
+    operate_on(alloc, operator, a, b.value())
 }
 
 // The value of an operand with the other sign.
@@ -294,7 +297,8 @@ fn value_of_operation(alloc: Global, names: &Names, x: &Expr) -> Result<Value, E
 }
 
 /// The value of an expression, or the refusal that comes first. Operands are evaluated from left to
-/// right, each just before its operation. The value of a name is copied only where no operation is.
+/// right, each just before its operation. The value of a name is copied only where
+/// no operation follows, or where one is made by a few changes of the copy.
 #[cycle(evaluation)]
 pub fn value_of(alloc: Global, names: &Names, x: &Expr) -> Result<Value, EvaluationRefusal>
     requires { IsBuilt x.now }
