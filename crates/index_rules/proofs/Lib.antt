@@ -1,0 +1,12 @@
+pub mod AnswersPutIn
+pub mod Classes
+pub mod LiftedAnswers
+pub mod LiftsRead
+pub mod MultipliedReads
+pub mod PairAnswers
+pub mod ProductsByChange
+pub mod PushedTerms
+pub mod ReducedCombos
+pub mod ReplacedKeys
+pub mod SignedTerms
+pub mod UniqueAnswers
