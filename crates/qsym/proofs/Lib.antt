@@ -1,0 +1,4 @@
+pub mod Changes
+pub mod CutCodes
+pub mod Growth
+pub mod Indices
