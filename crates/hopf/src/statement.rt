@@ -89,16 +89,16 @@ fn outcome_of_print(alloc: Global, names: &Names, x: &Expr) -> Result<Outcome, O
 }
 
 // The name has the value, where there is room for it.
-fn keep(alloc: Global, names: &mut Names, name: &Name, value: Value) -> Result<Outcome, OutOfMemory>
+fn keep(names: &mut Names, name: Name, value: Value) -> Result<Outcome, OutOfMemory>
     requires { IsValue value }
-    ensures ok { IfOk result (λ outcome. Keeps names.old name.now value outcome names.new) }
+    ensures ok { IfOk result (λ outcome. Keeps names.old name value outcome names.new) }
     ensures told { IfOk result IsTold }
     ensures err { OnErr result (names.new ≡ names.old) }
 {
     if !names.has_room_for(name.as_slice()) {
         return Ok(Outcome::Refused(StatementRefusal::TooManyNames));
     }
-    names.assign(Name::new(alloc, name.as_slice())?, value)?;
+    names.assign(name, value)?;
     Ok(Outcome::Kept)
 }
 
@@ -106,17 +106,17 @@ fn keep(alloc: Global, names: &mut Names, name: &Name, value: Value) -> Result<O
 fn outcome_of_assignment(
     alloc: Global,
     names: &mut Names,
-    name: &Name,
+    name: Name,
     x: &Expr,
 ) -> Result<Outcome, OutOfMemory>
     requires values { AreValues names.old }
     requires built { IsBuilt x.now }
-    ensures outcome { IfOk result (λ outcome. IsOutcomeOf names.old (Statement.Assign name.now x.now) outcome names.new) }
+    ensures outcome { IfOk result (λ outcome. IsOutcomeOf names.old (Statement.Assign name x.now) outcome names.new) }
     ensures told { IfOk result IsTold }
     ensures err { OnErr result (names.new ≡ names.old) }
 {
     match evaluated(alloc, names, x)? {
-        Ok(value) => keep(alloc, names, name, value),
+        Ok(value) => keep(names, name, value),
         Err(refusal) => Ok(Outcome::Refused(refusal_of(refusal))),
     }
 }
@@ -125,18 +125,18 @@ fn outcome_of_assignment(
 fn outcome_of(
     alloc: Global,
     names: &mut Names,
-    statement: &Statement,
+    statement: Statement,
 ) -> Result<Outcome, OutOfMemory>
     requires values { AreValues names.old }
-    requires built { IsBuiltStatement statement.now }
-    ensures outcome { IfOk result (λ outcome. IsOutcomeOf names.old statement.now outcome names.new) }
+    requires built { IsBuiltStatement statement }
+    ensures outcome { IfOk result (λ outcome. IsOutcomeOf names.old statement outcome names.new) }
     ensures told { IfOk result IsTold }
     ensures err { OnErr result (names.new ≡ names.old) }
 {
     match statement {
         Statement::Empty => Ok(Outcome::Empty),
-        Statement::Print(x) => outcome_of_print(alloc, names, x),
-        Statement::Assign { name, value } => outcome_of_assignment(alloc, names, name, value),
+        Statement::Print(x) => outcome_of_print(alloc, names, &x),
+        Statement::Assign { name, value } => outcome_of_assignment(alloc, names, name, &value),
         Statement::Equal(_, _) => unreachable!(),
     }
 }
@@ -158,7 +158,7 @@ pub fn outcome_of_text(
         return Ok(Outcome::Refused(StatementRefusal::TooLong));
     }
     match parse(alloc, text) {
-        Ok(statement) => outcome_of(alloc, names, &statement),
+        Ok(statement) => outcome_of(alloc, names, statement),
         Err(fault) => outcome_of_fault(fault),
     }
 }

@@ -1,5 +1,5 @@
 -- What was read, followed by what the state still reads, is a statement, and nothing else is.
-use Rattle.std.proofs.Common.{◌≡◌, ℕ, List, [], ◌∷◌, ◌++◌, Option, Some, None, refl, sym, ◌∙◌, ap, subst, append_assoc, ◌↔◌, ◌<◌, ◌+◌, length, take, option_map, slice_get, get_or, arith, drop, set, drop-cons, add-one}
+use Rattle.std.proofs.Common.{◌≡◌, ℕ, List, [], ◌∷◌, ◌++◌, Option, Some, None, refl, sym, ◌∙◌, ap, subst, append_assoc, ◌↔◌, ◌<◌, ◌+◌, length, take, slice_get, get_or, arith, drop, set, drop-cons, add-one}
 use Rattle.std.proofs.lemmas.List.{append-nil, take_more, drop-set-lt}
 use Rattle.std.proofs.lemmas.Option.{slice_get-get_or, slice_get_past}
 use Rattle.std.proofs.Math.Seq.{take-length}

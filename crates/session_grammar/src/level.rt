@@ -1,5 +1,5 @@
 //! The parts of an open sum, and its value.
-ghost use Rattle.std.specs.Prelude.{◌≡◌, IfOk, OnOk};
+ghost use Rattle.std.specs.Prelude.{◌≡◌, ◌++◌, ◌∷◌, [], false, IfOk, OnOk};
 ghost use Rattle.session_grammar.specs.Grammar.{product_of as product_value, tensor_of as tensor_value, sum_of as sum_value};
 ghost use Rattle.session_grammar.specs.ParserSteps.{fresh as fresh_level, push, next_tensor as level_behind_hash, next_part as level_behind_sign, value_of as level_value};
 
@@ -93,17 +93,29 @@ impl Level {
         Ok(())
     }
 
+    // The last part, without its sign. Of it the level keeps the sign alone.
+    fn take_part(&mut self, alloc: Global) -> Result<Expr, OutOfMemory>
+        ensures part { IfOk result (λ x. x ≡ tensor_value (self.old.tensor ++ product_value self.old.factors ∷ [])) }
+        ensures rest { OnOk result (self.new ≡ record self.old { tensor = []; factors = []; divides = false }) }
+    {
+        let factors = mem::replace(&mut self.factors, Items::new(alloc));
+        let last = product_of(factors);
+        self.divides = false;
+        if self.tensor.is_empty() {
+            return Ok(last);
+        }
+        let mut tensor = mem::replace(&mut self.tensor, Items::new(alloc));
+        tensor.push(last)?;
+        Ok(tensor_of(tensor))
+    }
+
     /// `+` or `-` is read.
     pub fn next_part(&mut self, alloc: Global, is_minus: bool) -> Result<(), OutOfMemory>
         ensures { OnOk result (self.new ≡ level_behind_sign is_minus self.old) }
     {
         let minus = self.minus;
-        self.next_tensor(alloc)?;
-        let tensor = mem::replace(&mut self.tensor, Items::new(alloc));
-        self.parts.push(Signed {
-            minus,
-            value: tensor_of(tensor),
-        })?;
+        let value = self.take_part(alloc)?;
+        self.parts.push(Signed { minus, value })?;
         self.minus = is_minus;
         Ok(())
     }
@@ -112,6 +124,9 @@ impl Level {
     pub fn take_value(&mut self, alloc: Global) -> Result<Expr, OutOfMemory>
         ensures { IfOk result (λ x. x ≡ level_value self.old) }
     {
+        if !self.minus && self.parts.is_empty() {
+            return self.take_part(alloc);
+        }
         self.next_part(alloc, false)?;
         sum_of(mem::replace(&mut self.parts, Items::new(alloc)))
     }

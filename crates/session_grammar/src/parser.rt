@@ -34,31 +34,14 @@ fn place(number: Option<u128>) -> Place
 }
 
 // The value of the call of a map.
-fn mapped(alloc: Global, map: Map, value: Expr, number: Option<u128>) -> Result<Expr, OutOfMemory>
-    ensures { IfOk result (λ x. x ≡ mapped_value map value number) }
+fn mapped(map: Map, value: Boxed<Expr>, number: Option<u128>) -> Expr
+    ensures { result ≡ mapped_value map value number }
 {
     let at = place(number);
     match map {
-        Map::Convert(to) => Ok(Expr::Convert {
-            to,
-            value: Boxed::new(alloc, value)?,
-            at,
-        }),
-        Map::Linear(map) => Ok(Expr::Apply {
-            map,
-            value: Boxed::new(alloc, value)?,
-            at,
-        }),
+        Map::Convert(to) => Expr::Convert { to, value, at },
+        Map::Linear(map) => Expr::Apply { map, value, at },
     }
-}
-
-// The pairing of two values.
-fn pair(alloc: Global, first: Expr, second: Expr) -> Result<Expr, OutOfMemory>
-    ensures { IfOk result (λ x. x ≡ Expr.Pair first second) }
-{
-    let first = Boxed::new(alloc, first)?;
-    let second = Boxed::new(alloc, second)?;
-    Ok(Expr::Pair(first, second))
 }
 
 // The statement of a sum outside all brackets.
@@ -113,8 +96,8 @@ impl Stack {
     {
         match call {
             Call::Group => self.put(value),
-            Call::Mapped(map) => self.put(mapped(alloc, map, value, None)?),
-            Call::Second(first) => self.put(pair(alloc, first, value)?),
+            Call::Mapped(map) => self.put(mapped(map, Boxed::new(alloc, value)?, None)),
+            Call::Second(first) => self.put(Expr::Pair(first, Boxed::new(alloc, value)?)),
             Call::First | Call::Along => Ok(None),
         }
     }
@@ -129,9 +112,9 @@ impl Stack {
         ensures { IfOk result (λ o. goes self.new o ≡ comma_in self.old.base call (reverse self.old.below) self.old.level value) }
     {
         match call {
-            Call::Mapped(map) => Ok(Some(Mode::Count(map, value))),
-            Call::First => self.enter(alloc, Call::Second(value)),
-            Call::Along => Ok(Some(Mode::Component(value))),
+            Call::Mapped(map) => Ok(Some(Mode::Count(map, Boxed::new(alloc, value)?))),
+            Call::First => self.enter(alloc, Call::Second(Boxed::new(alloc, value)?)),
+            Call::Along => Ok(Some(Mode::Component(Boxed::new(alloc, value)?))),
             Call::Group | Call::Second(_) => Ok(None),
         }
     }
@@ -344,7 +327,7 @@ impl Stack {
     }
 
     // At the number of a component, for a map.
-    fn count(&mut self, map: Map, value: Expr, lexeme: Lexeme) -> Option<Mode>
+    fn count(&mut self, map: Map, value: Boxed<Expr>, lexeme: Lexeme) -> Option<Mode>
         ensures { goes self.new result ≡ count_step self.old.base map value (reverse self.old.below) self.old.level lexeme }
     {
         match lexeme {
@@ -356,22 +339,21 @@ impl Stack {
     // Behind it.
     fn counted(
         &mut self,
-        alloc: Global,
         map: Map,
-        value: Expr,
+        value: Boxed<Expr>,
         number: u128,
         lexeme: Lexeme,
     ) -> Result<Option<Mode>, OutOfMemory>
         ensures { IfOk result (λ o. goes self.new o ≡ counted_step self.old.base map value number (reverse self.old.below) self.old.level lexeme) }
     {
         match lexeme {
-            Lexeme::Close => self.put(mapped(alloc, map, value, Some(number))?),
+            Lexeme::Close => self.put(mapped(map, value, Some(number))),
             _ => Ok(None),
         }
     }
 
     // At the number of a component, for `along`.
-    fn component(&mut self, value: Expr, lexeme: Lexeme) -> Option<Mode>
+    fn component(&mut self, value: Boxed<Expr>, lexeme: Lexeme) -> Option<Mode>
         ensures { goes self.new result ≡ component_step self.old.base value (reverse self.old.below) self.old.level lexeme }
     {
         match lexeme {
@@ -384,7 +366,7 @@ impl Stack {
     fn components(
         &mut self,
         alloc: Global,
-        value: Expr,
+        value: Boxed<Expr>,
         number: u128,
         lexeme: Lexeme,
     ) -> Option<Mode>
@@ -399,7 +381,7 @@ impl Stack {
     // At the name of a basis, for `along`.
     fn through(
         &mut self,
-        value: Expr,
+        value: Boxed<Expr>,
         number: u128,
         mut bases: Items<BasisId>,
         lexeme: Lexeme,
@@ -419,14 +401,13 @@ impl Stack {
     fn put_along(
         &mut self,
         alloc: Global,
-        value: Expr,
+        value: Boxed<Expr>,
         number: u128,
         bases: Items<BasisId>,
     ) -> Result<Option<Mode>, OutOfMemory>
         ensures { IfOk result (λ o. goes self.new o ≡ put self.old.base (Expr.Along value (component_of number) bases) (reverse self.old.below) self.old.level) }
     {
         let through = BasisList::from_slice(alloc, bases.as_slice())?;
-        let value = Boxed::new(alloc, value)?;
         let component = component(number);
         self.put(Expr::Along {
             value,
@@ -439,7 +420,7 @@ impl Stack {
     fn passed(
         &mut self,
         alloc: Global,
-        value: Expr,
+        value: Boxed<Expr>,
         number: u128,
         bases: Items<BasisId>,
         lexeme: Lexeme,
@@ -480,7 +461,7 @@ impl Stack {
             Mode::Item(list) => self.item(list, lexeme),
             Mode::Behind(list) => self.behind(list, lexeme),
             Mode::Count(map, value) => Ok(self.count(map, value, lexeme)),
-            Mode::Counted(map, value, number) => self.counted(alloc, map, value, number, lexeme),
+            Mode::Counted(map, value, number) => self.counted(map, value, number, lexeme),
             Mode::Component(value) => Ok(self.component(value, lexeme)),
             Mode::Components(value, number) => Ok(self.components(alloc, value, number, lexeme)),
             Mode::Through(value, number, bases) => self.through(value, number, bases, lexeme),
@@ -514,7 +495,7 @@ impl Stack {
         ensures { IfOk result (λ o. goes self.new o ≡ word_step word lexeme) }
     {
         match lexeme {
-            Lexeme::Assign => match word.word(alloc)? {
+            Lexeme::Assign => match word.into_word(alloc)? {
                 None => Ok(None),
                 Some(name) => {
                     self.restart(alloc, Base::Assigned(name));

@@ -7,7 +7,7 @@ use crate::{Expr, Factor, Signed};
 use basis_names::BasisId;
 use hopf_num::OutOfMemory;
 use session_tokens::{Lexeme, Linear, Name};
-use sqlite_items::Items;
+use sqlite_items::{Boxed, Items};
 use std::alloc::Global;
 use std::marker::Model;
 
@@ -31,7 +31,7 @@ pub enum Call {
     /// The first operand of `pair`.
     First,
     /// The second operand of `pair`, behind the first.
-    Second(Expr),
+    Second(Boxed<Expr>),
     /// The operand of `along`.
     Along,
 }
@@ -159,7 +159,7 @@ impl Listing {
     }
 }
 
-/// What is awaited.
+/// What is awaited. It is moved at each lexeme, so its expressions stand in boxes.
 #[derive(Drop)]
 pub enum Mode {
     /// A statement.
@@ -183,17 +183,17 @@ pub enum Mode {
     /// A comma or the end of a list, behind an item.
     Behind(Listing),
     /// The number of a component, for a map.
-    Count(Map, Expr),
+    Count(Map, Boxed<Expr>),
     /// The end of the call of a map.
-    Counted(Map, Expr, u128),
+    Counted(Map, Boxed<Expr>, u128),
     /// The number of a component, for `along`.
-    Component(Expr),
+    Component(Boxed<Expr>),
     /// The comma behind it.
-    Components(Expr, u128),
+    Components(Boxed<Expr>, u128),
     /// The name of a basis, for `along`.
-    Through(Expr, u128, Items<BasisId>),
+    Through(Boxed<Expr>, u128, Items<BasisId>),
     /// A comma, or the end of `along`.
-    Passed(Expr, u128, Items<BasisId>),
+    Passed(Boxed<Expr>, u128, Items<BasisId>),
 }
 
 impl Mode {

@@ -233,4 +233,15 @@ impl Lexeme {
             _ => Ok(None),
         }
     }
+
+    /// The spelling of a word, or `None` exactly for a lexeme that is no word. A name and a reserved
+    /// word hand on their own memory, so none is taken for them.
+    pub fn into_word(self, alloc: Global) -> Result<Option<Name>, OutOfMemory>
+        ensures { IfOk result (λ word. word ≡ word_of_lexeme self) }
+    {
+        match self {
+            Lexeme::Name(name) | Lexeme::Reserved(name) => Ok(Some(name)),
+            other => other.word(alloc),
+        }
+    }
 }

@@ -22,8 +22,9 @@ fn bytes_of(text: &[u8], token: Token) -> &[u8]
 pub fn lexemes_of(alloc: Global, text: &[u8], tokens: &[Token]) -> Result<Vec<Lexeme>, OutOfMemory>
     ensures { IfOk result (λ lexemes. lexemes.items ≡ lexemes_of_tokens text.now tokens.now) }
 {
-    let mut lexemes = Vec::new(alloc);
-    for place in 0..tokens.len().saturating_sub(1) {
+    let count = tokens.len().saturating_sub(1);
+    let mut lexemes = Vec::with_capacity(alloc, count)?;
+    for place in 0..count {
         let token = tokens[place];
         lexemes.push(lexeme_of(alloc, token.kind, bytes_of(text, token))?)?;
     }

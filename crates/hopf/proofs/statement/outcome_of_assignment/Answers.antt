@@ -14,12 +14,12 @@ use Rattle.hopf.proofs.statement.outcome_of_assignment.Goals as goal
 pub returns-in-Ok-clause-outcome : goal.returns-in-Ok-clause-outcome
 returns-in-Ok-clause-outcome c =
     let h : Evaluates c.args.names.now c.args.x.now (Ok c.in-Ok.value) = subst (λ (a : Answer). Evaluates c.args.names.now c.args.x.now a) c.in-Ok.is c.in_ok-value.ensures in
-    IfOk-weaker c.keep.result (λ (o : Outcome). Keeps c.args.names.now c.args.name.now c.in-Ok.value o c.keep.new.names) (λ (o : Outcome). IsOutcomeOf c.args.names.now (s.Assign c.args.name.now c.args.x.now) o c.keep.new.names)
+    IfOk-weaker c.keep.result (λ (o : Outcome). Keeps c.args.names.now c.args.name c.in-Ok.value o c.keep.new.names) (λ (o : Outcome). IsOutcomeOf c.args.names.now (s.Assign c.args.name c.args.x.now) o c.keep.new.names)
     (λ o keeps. kept h (meant c.args.names.now c.args.x.now c.in-Ok.value c.requires.values h) keeps) c.keep.ensures.ok
 
 pub returns-in-Err-clause-outcome : goal.returns-in-Err-clause-outcome
 returns-in-Err-clause-outcome c =
-    subst (λ (q : StatementRefusal). IsOutcomeOf c.args.names.now (s.Assign c.args.name.now c.args.x.now) (Refused q) c.args.names.now) (sym c.refusal_of.ensures)
+    subst (λ (q : StatementRefusal). IsOutcomeOf c.args.names.now (s.Assign c.args.name c.args.x.now) (Refused q) c.args.names.now) (sym c.refusal_of.ensures)
     (not_kept (subst (λ (a : Answer). Evaluates c.args.names.now c.args.x.now a) c.in-Err.is c.in_ok-value.ensures))
 
 pub returns-in-Err-clause-told : goal.returns-in-Err-clause-told
