@@ -1,12 +1,15 @@
 pub mod AnswersPutIn
 pub mod Classes
 pub mod LiftedAnswers
+pub mod LiftsExist
 pub mod LiftsRead
 pub mod MultipliedReads
 pub mod PairAnswers
 pub mod ProductsByChange
+pub mod ProductsByChangeExist
 pub mod PushedTerms
 pub mod ReducedCombos
 pub mod ReplacedKeys
 pub mod SignedTerms
+pub mod TensorsExist
 pub mod UniqueAnswers

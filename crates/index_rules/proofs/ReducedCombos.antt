@@ -1,4 +1,4 @@
--- A combination over a number, in lowest terms: its denominator divides that number, and its norm is no larger.
+-- A combination over a number, in lowest terms: there is one, its denominator divides that number, and its norm is no larger.
 use Rattle.std.proofs.Common.{◌≡◌, ℕ, zero, suc, ◌/◌, ◌^◌, ◌<◌, ◌≤◌, [], ◌∷◌, length, refl, sym, ◌∙◌, ap, subst, arith, unsigned_abs}
 use Rattle.std.specs.Int.{◌∣◌}
 use Rattle.std.proofs.Math.IntN.{ℤ, pos, ◌*ℤ◌, *ℤ-one, *ℤ_comm, one}
@@ -41,28 +41,58 @@ turned x y w n m d some ex ey =
     *ℤ-pos_cancel (x *ℤ pos m) (y *ℤ pos n) d some
     (times_turned x (pos m) (pos d) ∙ ap (λ z. z *ℤ pos m) ex ∙ times_turned w (pos n) (pos m) ∙ ap (λ z. z *ℤ pos n) (sym ey) ∙ times_turned y (pos d) (pos n))
 
+-- a canonical combination of terms over a number
+pub record IsLowestOver (whole : Combination) (den : ℕ) (c : Combination) : Type 0 where
+  pub canonical : IsCanonical c.rank c.den c.terms
+  pub over : IsOver whole.rank den whole.terms c
+  pub divides : c.den ∣ den
+
+-- the quotients by the greatest common divisor are such a combination
+pub lowest_exists : (whole : Combination) (den : ℕ) → 1 ≤ den → den < 2 ^ 127 → AreTerms whole.rank whole.terms → (c : Combination) × IsLowestOver whole den c
+lowest_exists whole den some small ordered =
+    let (g, common) = common-exists den whole.terms in
+    let unreduced : IsUnreduced whole.rank den whole.terms (norm_of whole.terms) g = record { ordered = ordered; positive = some; small = small; norm_is = refl; common_is = common } in (
+      record { rank = whole.rank; den = den / g; terms = quotients g whole.terms },
+      record {
+        canonical = (IsCanonical-quotients whole.rank den whole.terms (norm_of whole.terms) g unreduced).0;
+        over = IsOver-quotients whole.rank den whole.terms (norm_of whole.terms) g unreduced;
+        divides = subst (λ n. (den / g) ∣ n) (mul-div_cancel' g common.divides_den) (dvd-mul_left (den / g) g);
+      },
+    )
+
 -- what is found over the number is no other than this
 pub reduced : (whole new : Combination) (den : ℕ) → 1 ≤ den → den < 2 ^ 127 → AreTerms whole.rank whole.terms → whole.den ≡ 1 → IsCanonical new.rank new.den new.terms
     → IsMultiple whole (record { num = pos 1; den = den }) new → (new.den ∣ den) × (norm_of new.terms ≤ norm_of whole.terms)
 unfolding one
-reduced whole new den some small ordered is_whole canonical over =
-    let (g, common) = common-exists den whole.terms in
-    let unreduced : IsUnreduced whole.rank den whole.terms (norm_of whole.terms) g = record { ordered = ordered; positive = some; small = small; norm_is = refl; common_is = common } in
-    let found : Combination = record { rank = whole.rank; den = den / g; terms = quotients g whole.terms } in
-    let found_canonical = (IsCanonical-quotients whole.rank den whole.terms (norm_of whole.terms) g unreduced).0 in
-    let found_over = IsOver-quotients whole.rank den whole.terms (norm_of whole.terms) g unreduced in
+reduced whole new den some small ordered is_whole canonical multiple =
+    let (found, is) = lowest_exists whole den some small ordered in
     let same : new ≡ found =
-    same_by_coefficients (λ key. HasKey whole.terms key) new found canonical found_canonical over.rank over.keys found_over.keys (λ key has. coefficients g found_over key) in
-    let divides : (den / g) ∣ den = subst (λ n. (den / g) ∣ n) (mul-div_cancel' g common.divides_den) (dvd-mul_left (den / g) g) in
-    (subst (λ (c : Combination). c.den ∣ den) (sym same) divides, omega (arith, found_over.norm_within, ap (λ (c : Combination). norm_of c.terms) same))
+    same_by_coefficients (λ key. HasKey whole.terms key) new found canonical is.canonical (multiple.rank ∙ sym is.over.rank) multiple.keys is.over.keys (λ key has. coefficients found is.over key) in
+    (subst (λ (c : Combination). c.den ∣ den) (sym same) is.divides, omega (arith, is.over.norm_within, ap (λ (c : Combination). norm_of c.terms) same))
   where
     -- both weigh the same over their denominators
-    coefficients : (g : ℕ) → IsOver whole.rank den whole.terms (record { rank = whole.rank; den = den / g; terms = quotients g whole.terms }) → (key : Key)
-        → coefficient (scaled (den / g) new.terms) key ≡ coefficient (scaled new.den (quotients g whole.terms)) key
-    coefficients g is key =
+    coefficients : (found : Combination) → IsOver whole.rank den whole.terms found → (key : Key) → coefficient (scaled found.den new.terms) key ≡ coefficient (scaled new.den found.terms) key
+    coefficients found is key =
         let w = λ (k : Key). pos (counts (key_cmp k key)) in
-        weighed-scaled w (den / g) new.terms
-        ∙ turned (weighed w new.terms) (weighed w (quotients g whole.terms)) (weighed w whole.terms) new.den (den / g) den some
-        (ap (λ z. weighed w new.terms *ℤ z) (sym (*ℤ-one (pos den)) ∙ *ℤ_comm (pos den) (pos 1) ∙ ap (λ n. pos n *ℤ pos den) (sym is_whole)) ∙ over.weighs w ∙ ap (λ z. z *ℤ pos new.den) (*ℤ-one (weighed w whole.terms)))
+        weighed-scaled w found.den new.terms
+        ∙ turned (weighed w new.terms) (weighed w found.terms) (weighed w whole.terms) new.den found.den den some
+        (ap (λ z. weighed w new.terms *ℤ z) (sym (*ℤ-one (pos den)) ∙ *ℤ_comm (pos den) (pos 1) ∙ ap (λ n. pos n *ℤ pos den) (sym is_whole)) ∙ multiple.weighs w ∙ ap (λ z. z *ℤ pos new.den) (*ℤ-one (weighed w whole.terms)))
         (is.weighs w)
-        ∙ sym (weighed-scaled w new.den (quotients g whole.terms))
+        ∙ sym (weighed-scaled w new.den found.terms)
+
+-- canonical terms over 1 can be divided by a number
+pub divided_exists : (whole : Combination) (den : ℕ) → 1 ≤ den → den < 2 ^ 127 → AreTerms whole.rank whole.terms → whole.den ≡ 1
+    → (c : Combination) × IsCanonical c.rank c.den c.terms × IsMultiple whole (record { num = pos 1; den = den }) c
+unfolding one
+divided_exists whole den some small ordered is_whole =
+    let (c, is) = lowest_exists whole den some small ordered in (
+      c,
+      is.canonical,
+      record {
+        rank = is.over.rank;
+        weighs = λ w.
+            ap (λ z. weighed w c.terms *ℤ z) (ap (λ n. pos n *ℤ pos den) is_whole ∙ *ℤ_comm (pos 1) (pos den) ∙ *ℤ-one (pos den))
+            ∙ is.over.weighs w ∙ ap (λ z. z *ℤ pos c.den) (sym (*ℤ-one (weighed w whole.terms)));
+        keys = is.over.keys;
+      },
+    )

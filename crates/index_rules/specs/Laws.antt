@@ -1,18 +1,19 @@
 -- Laws of lifts. Public functions with empty bodies ensure them (`src/laws.rt`).
-use Rattle.std.specs.Prelude.{◌≡◌, ℕ, ◌*◌, ◌^◌, ◌<◌, ◌≤◌, List, [], ◌∷◌, ◌++◌, map, length}
+use Rattle.std.specs.Prelude.{◌≡◌, ℕ, ◌+◌, ◌*◌, ◌^◌, ◌<◌, ◌≤◌, List, [], ◌∷◌, ◌++◌, map, length, min}
 use Rattle.basis_names.specs.declared.bases.BasisId.{BasisId}
 use Rattle.change_laws.specs.Lifts.{TakesOne, points_of}
 use Rattle.coproduct_laws.specs.Coproducts.{IsCoproductRule}
 use Rattle.index_rules.specs.Changes.{change_facts, operation_facts}
-use Rattle.index_rules.specs.Lifts.{HasKeysOver, IsLift, AreMultiplied}
-use Rattle.index_rules.specs.Rules.{RuleFacts, IsAnswerWithin}
+use Rattle.index_rules.specs.Lifts.{HasKeysOver, CanLift, IsLift, CanMultiply, AreMultiplied}
+use Rattle.index_rules.specs.Rules.{RuleFacts, IsAnswerWithin, IsIndexOf, Answers}
+use Rattle.index_rules.specs.Spaces.{limit_for}
 use Rattle.realisations.specs.Answers.{IsAnswer}
 use Rattle.realisations.specs.Bases.{kind_of}
 use Rattle.realisations.specs.Codes.{Code, Key}
-use Rattle.realisations.specs.Combinations.{Combination, HasKey}
-use Rattle.realisations.specs.Indices.{AreIndices, degree_of, total_degree}
+use Rattle.realisations.specs.Combinations.{Combination, IsCanonical, HasKey}
+use Rattle.realisations.specs.Indices.{IsIndex, AreIndices, degree_of, total_degree}
 use Rattle.realisations.specs.Points.{Point, Points, IsPoint, ArePoints}
-use Rattle.realisations.specs.Readings.{Operation, Reading, coproduct, mult, leaf, applied, element, denominator, AgreeAt}
+use Rattle.realisations.specs.Readings.{Operation, Reading, coproduct, mult, leaf, applied, product, element, denominator, AgreeAt}
 
 -- there is at most one answer with a reading
 abbrev pub SameAnswerLaw : Type 0
@@ -58,3 +59,28 @@ abbrev pub LiftedIndicesLaw : Type 0
 LiftedIndicesLaw = (before after : List BasisId) (facts : RuleFacts) (old new : Combination) → HasKeysOver (before ++ facts.basis ∷ after) old.terms →
     IsLift facts (length before) old new →
     (key : Key) → HasKey new.terms key → IsIndexOfDegree before after facts old key
+
+-- each index that the rule answers has an answer
+abbrev pub HasAnswers : RuleFacts → Type 0
+HasAnswers facts = (code : Code) → IsIndexOf facts code → (c : Combination) × Answers facts code c
+
+-- each two indices whose degrees add to at most the limit have a product, whose norm has at most so many bits for each degree
+abbrev pub HasProducts : BasisId → ℕ → Type 0
+HasProducts basis growth = (left right : Code) → IsIndex basis left → IsIndex basis right → degree_of basis left + degree_of basis right ≤ limit_for basis →
+    (c : Combination) × IsAnswerWithin growth (basis ∷ []) (degree_of basis left + degree_of basis right) (product (element basis left) (element basis right)) c
+
+-- a rule whose indices have answers can be put into each component that it can be lifted to
+abbrev pub LiftExistsLaw : Type 0
+LiftExistsLaw = (facts : RuleFacts) → HasAnswers facts → (k : ℕ) (old : Combination) → IsCanonical old.rank old.den old.terms → CanLift facts k old →
+    (new : Combination) × IsLift facts k old new
+
+-- over a basis with products two neighbouring components that can be multiplied have products
+abbrev pub ProductsExistLaw : Type 0
+ProductsExistLaw = (basis : BasisId) (growth : ℕ) → HasProducts basis growth → (k : ℕ) (old : Combination) → IsCanonical old.rank old.den old.terms → CanMultiply basis k old →
+    (new : Combination) × AreMultiplied basis growth k old new
+
+-- where the elements of a basis change to one with products, and those of that basis back, there are products over the first one, by both changes
+abbrev pub ProductsByChangeExistLaw : Type 0
+ProductsByChangeExistLaw = (from to : BasisId) (out growth back : ℕ) → kind_of from ≡ kind_of to → limit_for from ≤ limit_for to → out + growth + back ≤ 5 →
+    HasAnswers (change_facts from to (min (limit_for from) (limit_for to)) out) → HasProducts to growth → HasAnswers (change_facts to from (min (limit_for to) (limit_for from)) back) →
+    HasProducts from (out + growth + back)

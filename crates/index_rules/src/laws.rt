@@ -1,5 +1,5 @@
 //! Laws of bases and of lifts. A function here computes nothing: callers cite its clause.
-ghost use Rattle.index_rules.specs.Laws.{ChangeReadsLaw, OperationReadsLaw, CoproductNormLaw, LiftedIndicesLaw, ProductReadsLaw, SameAnswerLaw};
+ghost use Rattle.index_rules.specs.Laws.{ChangeReadsLaw, OperationReadsLaw, CoproductNormLaw, LiftExistsLaw, LiftedIndicesLaw, ProductReadsLaw, ProductsByChangeExistLaw, ProductsExistLaw, SameAnswerLaw};
 ghost use Rattle.index_rules.specs.Spaces.{ClassLaw};
 
 /// The class of the representative of an index is the index.
@@ -49,4 +49,28 @@ pub fn lifted_indices_law()
 /// Nothing is computed: callers cite the clause.
 pub fn product_reads_law()
     ensures { ProductReadsLaw }
+{}
+
+/// A rule that has an answer for each of its indices has a lift to each component that it can be lifted
+/// to, whatever memory there is.
+///
+/// Nothing is computed: callers cite the clause.
+pub fn lift_exists_law()
+    ensures { LiftExistsLaw }
+{}
+
+/// Over a basis that has a product for each two indices, two neighbouring components that can be
+/// multiplied have products, whatever memory there is.
+///
+/// Nothing is computed: callers cite the clause.
+pub fn products_exist_law()
+    ensures { ProductsExistLaw }
+{}
+
+/// Where the elements of a basis change to one that has products, and those of that basis change back,
+/// the first basis has products too, whatever memory there is.
+///
+/// Nothing is computed: callers cite the clause.
+pub fn products_by_change_exist_law()
+    ensures { ProductsByChangeExistLaw }
 {}

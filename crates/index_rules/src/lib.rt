@@ -14,8 +14,9 @@ mod sums;
 
 pub use changing::{ByChange, ByCoproduct, change_component, coproduct_component};
 pub use laws::{
-    change_reads_law, class_law, coproduct_norm_law, lifted_indices_law, operation_reads_law,
-    product_reads_law, same_answer_law,
+    change_reads_law, class_law, coproduct_norm_law, lift_exists_law, lifted_indices_law,
+    operation_reads_law, product_reads_law, products_by_change_exist_law, products_exist_law,
+    same_answer_law,
 };
 pub use lifting::lift;
 pub use multiplying::multiply_components;

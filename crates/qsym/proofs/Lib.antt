@@ -2,3 +2,4 @@ pub mod Changes
 pub mod CutCodes
 pub mod Growth
 pub mod Indices
+pub mod RulesExist
