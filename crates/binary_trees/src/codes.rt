@@ -26,8 +26,9 @@ pub(crate) fn root_place(code: &Code) -> Option<usize>
     None
 }
 
-// Whether these letters are the code of a tree.
-pub(crate) fn is_code_of_tree(code: &Code) -> bool
+/// Whether these letters are the code of a tree, of any size. It takes no memory; the cost grows with the
+/// square of the length.
+pub fn is_code_of_tree(code: &Code) -> bool
     ensures { MatchBool result (IsTreeCode code.now) (IsTreeCode code.now → ⊥) }
 {
     if code.len() == 0 {

@@ -9,6 +9,7 @@ mod searching;
 mod tree;
 mod upper_parts;
 
+pub use codes::is_code_of_tree;
 pub use decreasing::decreasing_shape;
 pub use listing::list;
 pub use products::over;

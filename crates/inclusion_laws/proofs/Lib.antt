@@ -1,0 +1,13 @@
+pub mod ComesBefore
+pub mod CommutingImages
+pub mod CommutingLaws
+pub mod CountsOfWords
+pub mod CutsAtPlaces
+pub mod DescentsOfIndices
+pub mod FundamentalImages
+pub mod Inclusions
+pub mod InclusionsOfClasses
+pub mod LetterOne
+pub mod ListedIndices
+pub mod PackedImages
+pub mod SumsOfElements

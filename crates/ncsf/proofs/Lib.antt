@@ -1,0 +1,10 @@
+pub mod Changes
+pub mod Growth
+pub mod Indices
+pub mod JoinedParts
+pub mod PairLists
+pub mod RibbonCounts
+pub mod RibbonRule
+pub mod RulesExist
+pub mod Sides
+pub mod WordCodes

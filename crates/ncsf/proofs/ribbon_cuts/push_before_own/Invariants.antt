@@ -1,0 +1,6 @@
+use Rattle.std.proofs.Common.{◌≡◌, ◌++◌, take}
+use Rattle.ncsf.specs.PairLists.{before_own}
+use Rattle.ncsf.proofs.ribbon_cuts.push_before_own.Given as goal
+
+abbrev pub invariant-loop-at : goal.invariant-loop-at
+invariant-loop-at l = l.longer.items ≡ l.fn.longer.items ++ before_own l.falls (take l.at l.own.items)

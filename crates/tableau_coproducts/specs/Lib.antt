@@ -1,0 +1,3 @@
+pub mod ClassCuts
+pub mod KnownCuts
+pub mod Laws

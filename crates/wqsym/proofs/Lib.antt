@@ -1,0 +1,4 @@
+pub mod Coproducts
+pub mod Indices
+pub mod MergeLists
+pub mod Products
