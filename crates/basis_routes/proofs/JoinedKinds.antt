@@ -16,7 +16,7 @@ use Rattle.basis_routes.specs.JoinTable.{join_of}
 use Rattle.basis_routes.specs.Joins.{joined, join_checks}
 
 -- what is tested of all bases holds of each
-of_each : (test : BasisId → Bool) → AllPass test bases → (basis : BasisId) → test basis ≡ true
+pub of_each : (test : BasisId → Bool) → AllPass test bases → (basis : BasisId) → test basis ≡ true
 of_each test all QsymM = all 0 QsymM (omega arith)
 of_each test all QsymF = all 1 QsymF (omega arith)
 of_each test all NcsfS = all 2 NcsfS (omega arith)

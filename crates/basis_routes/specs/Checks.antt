@@ -4,19 +4,22 @@ use Rattle.hopf_num.specs.declared.room.Need.{Need}
 use Rattle.hopf_num.specs.FirstFailing.{IsFirstThatFails}
 use Rattle.hopf_num.specs.Room.{HasRoom, IsNeed}
 use Rattle.basis_names.specs.Bases.{algebra_of}
+use Rattle.realisations.specs.Bases.{kind_of}
 use Rattle.basis_routes.specs.declared.refusal.Refusal.{Refusal}
-use Rattle.basis_routes.specs.declared.refusal.Refusal.TheVariants.{Rank, NotScalar, ZeroDivisor, Mixed, Degree, TooLarge, Memory}
+use Rattle.basis_routes.specs.declared.refusal.Refusal.TheVariants.{Rank, Component, NotScalar, ZeroDivisor, Mixed, NoRoute, Degree, TooLarge, Memory}
 use Rattle.basis_routes.specs.declared.checks.Check.{Check}
-use Rattle.basis_routes.specs.declared.checks.Check.TheVariants.{SameRank, RankWithin, Scalar, Nonzero, Joined, DegreeWithin, Room}
+use Rattle.basis_routes.specs.declared.checks.Check.TheVariants.{SameRank, RankWithin, HasComponent, Scalar, Nonzero, Joined, Routed, DegreeWithin, Room}
 use Rattle.basis_routes.specs.JoinTable.{join_of}
 
--- the check passes
+-- the check passes; there is a way between two bases where they are read at points of one kind
 abbrev pub Passes : Check → Type 0
 Passes (SameRank left right) = left ≡ right
 Passes (RankWithin rank) = rank ≤ 3
+Passes (HasComponent component count) = (1 ≤ component) × (component ≤ count)
 Passes (Scalar rank) = rank ≡ 0
 Passes (Nonzero num) = num ≢ pos 0
 Passes (Joined left right) = IsSome (join_of left right)
+Passes (Routed from to) = kind_of from ≡ kind_of to
 Passes (DegreeWithin degree limit) = degree ≤ limit
 Passes (Room need) = HasRoom need
 
@@ -24,9 +27,11 @@ Passes (Room need) = HasRoom need
 abbrev pub refusal_of : Check → Refusal
 refusal_of (SameRank left right) = Rank
 refusal_of (RankWithin rank) = Rank
+refusal_of (HasComponent component count) = Component
 refusal_of (Scalar rank) = NotScalar
 refusal_of (Nonzero num) = ZeroDivisor
 refusal_of (Joined left right) = Mixed (algebra_of left) (algebra_of right)
+refusal_of (Routed from to) = NoRoute (algebra_of from) (algebra_of to)
 refusal_of (DegreeWithin degree limit) = Degree degree limit
 refusal_of (Room need) = TooLarge need
 

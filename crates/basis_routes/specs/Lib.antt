@@ -1,5 +1,11 @@
+pub mod Changed
 pub mod Checks
+pub mod Conversions
 pub mod JoinTable
 pub mod Joins
+pub mod KeptTerms
+pub mod Laws
 pub mod Lists
+pub mod Places
+pub mod Rows
 pub mod Rules

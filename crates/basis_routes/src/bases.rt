@@ -1,11 +1,11 @@
 //! Lists of bases.
-ghost use Rattle.std.specs.Prelude.{◌≡◌, ◌≢◌, ◌+◌, ◌≤◌, ◌-◌, ◌++◌, ℕ, List, length, slice_index_or, IfOk, IfErr};
+ghost use Rattle.std.specs.Prelude.{◌≡◌, ◌≢◌, ◌+◌, ◌≤◌, ◌-◌, ◌++◌, ◌∷◌, [], ℕ, List, length, slice_index_or, IfOk, IfErr};
 ghost use Rattle.realisations.specs.Indices.{total_degree};
 ghost use Rattle.hopf_laws.specs.Bases.{least_limit};
 ghost use Rattle.basis_routes.specs.declared.refusal.Refusal.TheVariants.{Memory};
 ghost use Rattle.basis_routes.specs.Checks.{Tests};
 ghost use Rattle.basis_routes.specs.Joins.{joined, join_checks};
-ghost use Rattle.basis_routes.specs.Lists.{bases_of};
+ghost use Rattle.basis_routes.specs.Lists.{bases_of, doubled as with_double, replaced as with_other, without as left_without};
 
 use crate::Refusal;
 use crate::joins::join_or_refuse;
@@ -111,6 +111,75 @@ impl Bases {
                 a, b, c,
             ),
             _ => unreachable!(),
+        };
+        Bases { held }
+    }
+
+    /// The list with another basis at a component, counted from 1.
+    pub fn replaced(&self, component: u32, basis: BasisId) -> Bases
+        requires first { 1 ≤ component }
+        requires last { component ≤ length self.now }
+        ensures { result ≡ with_other (component - 1) (basis ∷ []) self.now }
+    {
+        let held = match self.held {
+            Held::One(_) => Held::One(basis),
+            Held::Two(a, b) => if component == 1 {
+                Held::Two(basis, b)
+            } else {
+                Held::Two(a, basis)
+            },
+            Held::Three(a, b, c) => {
+                if component == 1 {
+                    Held::Three(basis, b, c)
+                } else if component == 2 {
+                    Held::Three(a, basis, c)
+                } else {
+                    Held::Three(a, b, basis)
+                }
+            }
+            Held::None => unreachable!(),
+        };
+        Bases { held }
+    }
+
+    /// The list with the basis of a component, counted from 1, twice.
+    pub fn doubled(&self, component: u32) -> Bases
+        requires first { 1 ≤ component }
+        requires last { component ≤ length self.now }
+        requires most { length self.now ≤ 2 }
+        ensures { result ≡ with_double (component - 1) self.now }
+    {
+        let held = match self.held {
+            Held::One(a) => Held::Two(a, a),
+            Held::Two(a, b) => if component == 1 {
+                Held::Three(a, a, b)
+            } else {
+                Held::Three(a, b, b)
+            },
+            Held::None | Held::Three(_, _, _) => unreachable!(),
+        };
+        Bases { held }
+    }
+
+    /// The list without the basis of a component, counted from 1.
+    pub fn without(&self, component: u32) -> Bases
+        requires first { 1 ≤ component }
+        requires last { component ≤ length self.now }
+        ensures { result ≡ left_without (component - 1) self.now }
+    {
+        let held = match self.held {
+            Held::One(_) => Held::None,
+            Held::Two(a, b) => Held::One(if component == 1 { b } else { a }),
+            Held::Three(a, b, c) => {
+                if component == 1 {
+                    Held::Two(b, c)
+                } else if component == 2 {
+                    Held::Two(a, c)
+                } else {
+                    Held::Two(a, b)
+                }
+            }
+            Held::None => unreachable!(),
         };
         Bases { held }
     }

@@ -4,8 +4,8 @@ ghost use Rattle.basis_routes.specs.declared.refusal.Refusal.TheVariants.{Memory
 ghost use Rattle.basis_routes.specs.Checks.{IsCheck, Tests};
 
 use crate::Refusal;
-use crate::joins::join_or_refuse;
-use hopf_laws::BasisId;
+use crate::joins::{is_routed, join_or_refuse};
+use hopf_laws::{BasisId, algebra};
 use hopf_num::Need;
 
 /// A check that an operation makes of its operands. The row of an operation is the list of its
@@ -16,12 +16,16 @@ pub enum Check {
     SameRank { left: u32, right: u32 },
     /// A rank is at most 3; else `Rank`.
     RankWithin { rank: u32 },
+    /// A component, counted from 1, is among so many; else `Component`.
+    HasComponent { component: u32, count: u32 },
     /// The rank of a divisor is 0; else `NotScalar`.
     Scalar { rank: u32 },
     /// A divisor is not 0; else `ZeroDivisor`.
     Nonzero { num: i128 },
     /// Two bases have a join; else `Mixed` with their algebras.
     Joined { left: BasisId, right: BasisId },
+    /// There is a way from one basis to another; else `NoRoute` with their algebras.
+    Routed { from: BasisId, to: BasisId },
     /// A degree is at most a limit; else `Degree` with both.
     DegreeWithin { degree: u32, limit: u32 },
     /// What is needed has room; else `TooLarge` with it.
@@ -38,12 +42,19 @@ impl Check {
         match self {
             Check::SameRank { left, right } => refuse_unless(left == right, Refusal::Rank),
             Check::RankWithin { rank } => refuse_unless(rank <= 3, Refusal::Rank),
+            Check::HasComponent { component, count } => {
+                refuse_unless(1 <= component && component <= count, Refusal::Component)
+            }
             Check::Scalar { rank } => refuse_unless(rank == 0, Refusal::NotScalar),
             Check::Nonzero { num } => refuse_unless(num != 0, Refusal::ZeroDivisor),
             Check::Joined { left, right } => match join_or_refuse(left, right) {
                 Ok(_) => Ok(()),
                 Err(refusal) => Err(refusal),
             },
+            Check::Routed { from, to } => refuse_unless(
+                is_routed(from, to),
+                Refusal::NoRoute(algebra(from), algebra(to)),
+            ),
             Check::DegreeWithin { degree, limit } => {
                 refuse_unless(degree <= limit, Refusal::Degree { degree, limit })
             }

@@ -1,8 +1,8 @@
 //! The basis of a sum or a product of elements over two bases.
-ghost use Rattle.std.specs.Prelude.{◌≡◌, ◌≢◌, [], ◌∷◌, IfOk, IfErr, unwrap_or};
+ghost use Rattle.std.specs.Prelude.{◌≡◌, ◌≢◌, ◌↔◌, IsTrue, [], ◌∷◌, IfOk, IfErr, unwrap_or};
 ghost use Rattle.basis_routes.specs.declared.refusal.Refusal.TheVariants.{Memory};
 ghost use Rattle.basis_routes.specs.declared.checks.Check.TheVariants.{Joined};
-ghost use Rattle.realisations.specs.Bases.{has_words, lies_in};
+ghost use Rattle.realisations.specs.Bases.{has_words, kind_of, lies_in};
 ghost use Rattle.basis_routes.specs.Checks.{Tests};
 ghost use Rattle.basis_routes.specs.JoinTable.{join_of};
 
@@ -26,6 +26,13 @@ pub fn join(left: BasisId, right: BasisId) -> Option<BasisId>
     } else {
         None
     }
+}
+
+// Whether there is a way from one basis to another: both are of QSym, or of algebras of words.
+pub(crate) fn is_routed(from: BasisId, to: BasisId) -> bool
+    ensures { IsTrue result ↔ kind_of from ≡ kind_of to }
+{
+    is_of_words(algebra(from)) == is_of_words(algebra(to))
 }
 
 // Whether it is an algebra of words.

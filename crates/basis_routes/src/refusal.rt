@@ -39,12 +39,3 @@ pub enum Refusal {
     /// Memory ran out.
     Memory,
 }
-
-/// A component of a value.
-#[derive(Clone, Copy, Debug, PartialEq, Eq)]
-pub enum Place {
-    /// The only one.
-    Only,
-    /// The one with this number, counted from 1.
-    At(u32),
-}

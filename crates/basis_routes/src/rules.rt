@@ -2,15 +2,18 @@
 ghost use Rattle.std.specs.Prelude.{◌≡◌, ◌+◌, ◌≤◌, ◌↔◌, [], ◌∷◌, IsTrue, IfOk};
 ghost use Rattle.realisations.specs.Answers.{IsAnswer};
 ghost use Rattle.realisations.specs.Indices.{IsIndex, degree_of};
-ghost use Rattle.realisations.specs.Readings.{element, product};
+ghost use Rattle.linear_combos.specs.CodeLists.{ListsIndices};
+ghost use Rattle.realisations.specs.Bases.{index_kind_of};
+ghost use Rattle.realisations.specs.Readings.{applied, coproduct, element, product};
 ghost use Rattle.basis_names.specs.Bases.{algebra_of, limit_of};
 ghost use Rattle.built_bases.specs.Table.{is_built};
 ghost use Rattle.basis_routes.specs.Rules.{IsIndexWithin};
 
-use compositions::{Composition, quasi_shuffle};
-use hopf_laws::{BasisId, algebra, limit};
+use hopf_laws::BasisId;
 use hopf_num::OutOfMemory;
-use linear_combos::{Code, Combo};
+use index_rules::{Algebra, Coalgebra, Space};
+use linear_combos::{Code, Codes, Combo};
+use qsym::{QsymF, QsymM};
 use std::alloc::Global;
 
 // The degree of an index, by its code.
@@ -31,9 +34,9 @@ pub fn is_index(basis: BasisId, code: &Code) -> bool
     ensures { IsTrue result ↔ IsIndexWithin basis code.now }
 {
     match basis {
-        BasisId::QsymM => code.sum() <= limit(algebra(basis)),
-        BasisId::QsymF
-        | BasisId::NcsfS
+        BasisId::QsymM => QsymM::is_index(code),
+        BasisId::QsymF => QsymF::is_index(code),
+        BasisId::NcsfS
         | BasisId::NcsfL
         | BasisId::NcsfR
         | BasisId::FqsymF
@@ -41,6 +44,26 @@ pub fn is_index(basis: BasisId, code: &Code) -> bool
         | BasisId::WqsymM
         | BasisId::FsymS
         | BasisId::PbtP => false,
+    }
+}
+
+/// The indices of a degree of a built basis, each once, in canonical order.
+pub fn list_of(alloc: Global, basis: BasisId, degree: u32) -> Result<Codes, OutOfMemory>
+    requires built { IsTrue (is_built basis) }
+    requires degree { degree ≤ limit_of (algebra_of basis) }
+    ensures { IfOk result (ListsIndices (index_kind_of basis) degree) }
+{
+    match basis {
+        BasisId::QsymM => QsymM::list(alloc, degree),
+        BasisId::QsymF => QsymF::list(alloc, degree),
+        BasisId::NcsfS
+        | BasisId::NcsfL
+        | BasisId::NcsfR
+        | BasisId::FqsymF
+        | BasisId::FqsymG
+        | BasisId::WqsymM
+        | BasisId::FsymS
+        | BasisId::PbtP => unreachable!(),
     }
 }
 
@@ -60,13 +83,30 @@ pub fn product_of(
         (product (element basis left.now) (element basis right.now))) }
 {
     match basis {
-        BasisId::QsymM => {
-            let left = Composition::of_code(*left).unwrap();
-            let right = Composition::of_code(*right).unwrap();
-            quasi_shuffle(alloc, &left, &right)
-        }
-        BasisId::QsymF
-        | BasisId::NcsfS
+        BasisId::QsymM => QsymM::product(alloc, left, right),
+        BasisId::QsymF => QsymF::product(alloc, left, right),
+        BasisId::NcsfS
+        | BasisId::NcsfL
+        | BasisId::NcsfR
+        | BasisId::FqsymF
+        | BasisId::FqsymG
+        | BasisId::WqsymM
+        | BasisId::FsymS
+        | BasisId::PbtP => unreachable!(),
+    }
+}
+
+/// The coproduct of an element of a built basis, as a combination of pairs over the same basis. The cost
+/// is that of the rule of the basis.
+pub fn coproduct_of(alloc: Global, basis: BasisId, code: &Code) -> Result<Combo, OutOfMemory>
+    requires built { IsTrue (is_built basis) }
+    requires index { IsIndexWithin basis code.now }
+    ensures { IfOk result (IsAnswer (basis ∷ basis ∷ []) (degree_of basis code.now) (applied coproduct 0 (element basis code.now))) }
+{
+    match basis {
+        BasisId::QsymM => QsymM::coproduct(alloc, code),
+        BasisId::QsymF => QsymF::coproduct(alloc, code),
+        BasisId::NcsfS
         | BasisId::NcsfL
         | BasisId::NcsfR
         | BasisId::FqsymF

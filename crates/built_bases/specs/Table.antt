@@ -6,7 +6,7 @@ use Rattle.basis_names.specs.declared.bases.BasisId.TheVariants.{QsymM, QsymF, N
 -- whether the elements of a basis are read, computed with and printed
 abbrev pub is_built : BasisId → Bool
 is_built QsymM = true
-is_built QsymF = false
+is_built QsymF = true
 is_built NcsfS = false
 is_built NcsfL = false
 is_built NcsfR = false

@@ -11,7 +11,7 @@ pub fn is_built_basis(basis: BasisId) -> bool
 {
     match basis {
         BasisId::QsymM => true,
-        BasisId::QsymF => false,
+        BasisId::QsymF => true,
         BasisId::NcsfS => false,
         BasisId::NcsfL => false,
         BasisId::NcsfR => false,

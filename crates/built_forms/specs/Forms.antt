@@ -10,16 +10,16 @@ use Rattle.session_tokens.specs.declared.lexeme.Lexeme.TheVariants as lex
 
 -- whether a linear function is built
 abbrev pub is_built_map : Linear → Bool
-is_built_map Coproduct = false
+is_built_map Coproduct = true
 is_built_map Antipode = false
-is_built_map Counit = false
-is_built_map Mult = false
+is_built_map Counit = true
+is_built_map Mult = true
 is_built_map Commute = false
 
 -- whether a form is built: a statement that has it can be evaluated
 abbrev pub is_built : Form → Bool
 is_built (Basis b) = is_built_basis b
-is_built Conversion = false
+is_built Conversion = true
 is_built (Map f) = is_built_map f
 is_built Pairing = false
 is_built Along = false

@@ -29,10 +29,10 @@ fn is_built_linear(map: Linear) -> bool
     ensures { result ≡ is_built_map map }
 {
     match map {
-        Linear::Coproduct => false,
+        Linear::Coproduct => true,
         Linear::Antipode => false,
-        Linear::Counit => false,
-        Linear::Mult => false,
+        Linear::Counit => true,
+        Linear::Mult => true,
         Linear::Commute => false,
     }
 }
@@ -43,7 +43,7 @@ pub fn is_built_form(form: Form) -> bool
 {
     match form {
         Form::Basis(basis) => is_built_basis(basis),
-        Form::Conversion => false,
+        Form::Conversion => true,
         Form::Linear(map) => is_built_linear(map),
         Form::Pairing => false,
         Form::Along => false,

@@ -8,4 +8,6 @@ mod lists_of_parts;
 #[cfg(test)]
 mod orders_of_compositions;
 #[cfg(test)]
+mod rules;
+#[cfg(test)]
 mod values;

@@ -5,19 +5,17 @@ use Rattle.std.proofs.lemmas.Bool.{leb-false}
 use Rattle.basis_names.specs.declared.bases.BasisId.{BasisId}
 use Rattle.built_bases.specs.Table.{is_built as is_built_basis}
 use Rattle.session_tokens.specs.declared.lexeme.Lexeme.{Lexeme}
-use Rattle.session_tokens.specs.declared.lexeme.Linear.{Linear}
 use Rattle.session_grammar.specs.declared.expression.Expr.{Expr}
 use Rattle.session_grammar.specs.declared.expression.Factor.{Factor}
 use Rattle.session_grammar.specs.declared.expression.Signed.{Signed}
 use Rattle.session_grammar.specs.declared.expression.Statement.{Statement}
-use Rattle.session_grammar.specs.Grammar.{IsList, empty_list, full_list, AreItems, last_item, one_item, IsItem, number_item, list_item, inside, factor, signed, product_of, tensor_of, sum_of_one, sum_of, Atom, number, named, element, convert, apply, pair, along, group, Factors, no_factors, times, over, Product, product, Products, no_products, hash, Tensor, tensor, Tensors, no_tensors, plus, minus, Sum, sum, negative, IsStatement, nothing as empty, assign, print, equal}
+use Rattle.session_grammar.specs.Grammar.{IsList, empty_list, full_list, AreItems, last_item, one_item, IsItem, number_item, list_item, inside, factor, signed, product_of, tensor_of, sum_of_one, sum_of, Ending, bare, numbered, Atom, number, named, element, convert, apply, pair, along, group, Factors, no_factors, times, over, Product, product, Products, no_products, hash, Tensor, tensor, Tensors, no_tensors, plus, minus, Sum, sum, negative, IsStatement, nothing as empty, assign, print, equal}
 use Rattle.built_forms.specs.Forms.{is_built_map, begins_unbuilt}
 use Rattle.index_spellings.specs.Indices.{index_in, is_nothing, begins_bad_list}
 use Rattle.session_reading.specs.Faults.{begins_large, IsUnseen}
 use Rattle.session_reading.specs.Parses.{IsSound}
-use Rattle.session_evaluation.specs.Built.{IsBuilt, built_number, built_element, built_name, built_sum, built_tensor, built_product, AreBuilt, no_steps, built_step, IsBuiltStatement, nothing, printed, assigned}
+use Rattle.session_evaluation.specs.Built.{IsBuilt, built_number, built_element, built_name, built_conversion, built_function, built_sum, built_tensor, built_product, AreBuilt, no_steps, built_step, IsBuiltStatement, nothing, printed, assigned}
 use Rattle.session_evaluation.specs.Evaluation.{steps_of_sum, steps_of_tensor, steps_of_product}
-use Rattle.session_tokens.specs.declared.lexeme.Linear.TheVariants as map
 use Rattle.session_grammar.specs.declared.expression.Expr.TheVariants as e
 
 -- Nothing is seen in lexemes that are refused for nothing, nor in what is left of them.
@@ -67,17 +65,15 @@ element_built basis items built indexed =
     let code = spelled_index (index_in basis items) indexed in
     built_element {code = code.0} (record { built = seen_built (is_built_basis basis) built; spelled = code.1 })
 
--- No conversion and no linear function is built.
-never_or : (test : Bool) → (test || true) ≡ false → ⊥
-never_or true seen = seen_unseen seen
-never_or false seen = seen_unseen seen
+-- So is one that is not seen as that of a conversion that is not built.
+seen_conversion : (built : Bool) → (not built || false) ≡ false → built ≡ true
+seen_conversion true seen = refl
+seen_conversion false seen = absurd (seen_unseen seen)
 
-no_map : (f : Linear) → not (is_built_map f) ≡ false → ⊥
-no_map map.Coproduct seen = seen_unseen seen
-no_map map.Antipode seen = seen_unseen seen
-no_map map.Counit seen = seen_unseen seen
-no_map map.Mult seen = seen_unseen seen
-no_map map.Commute seen = seen_unseen seen
+-- The number of a component, and the end.
+ending_rest : {ts r : List Lexeme} {k : Option ℕ} → Ending ts r k → IsClean ts → IsClean r
+ending_rest bare clean = clean.3
+ending_rest numbered clean = clean.3.3.3
 
 -- Expressions of one part, and of more.
 product_built : (f : Factor) (fs : List Factor) → IsBuilt f.value → AreBuilt (steps_of_product fs) → IsBuilt (product_of (f ∷ fs))
@@ -102,8 +98,10 @@ mutual
   atom_read number clean = (built_number (leb-false _ _ clean.0), clean.3)
   atom_read named clean = (built_name, clean.3)
   atom_read (element {b = b} {ts = ts} here) clean = (element_built b (inside 0 ts) clean.1 clean.2, list_rest here clean.3.3)
-  atom_read (convert {b = b} h ending) clean = absurd (never_or (not (is_built_basis b)) clean.1)
-  atom_read (apply {f = f} h ending) clean = absurd (no_map f clean.1)
+  atom_read (convert {b = b} h ending) clean =
+      let inner = sum_read h clean.3.3 in (built_conversion (seen_conversion (is_built_basis b) clean.1) inner.0, ending_rest ending inner.1)
+  atom_read (apply {f = f} h ending) clean =
+      let inner = sum_read h clean.3.3 in (built_function (seen_built (is_built_map f) clean.1) inner.0, ending_rest ending inner.1)
   atom_read (pair h k) clean = absurd (seen_unseen clean.1)
   atom_read (along h through) clean = absurd (seen_unseen clean.1)
   atom_read (group h) clean = let inner = sum_read h clean.3 in (inner.0, inner.1.3)

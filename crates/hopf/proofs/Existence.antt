@@ -17,7 +17,8 @@ use Rattle.session_evaluation.specs.Evaluation.{Answer, Evaluates}
 use Rattle.hopf.specs.Outcomes.{refused_as, Keeps, room, no_room, IsOutcomeOf, empty, printed, not_printed, kept, not_kept, IsOutcome, too_long, misread, read}
 use Rattle.hopf.specs.Transcript.{is_end, is_none, trimmed, unfinished, AreOutcomes, IsScript}
 use Rattle.hopf.proofs.BuiltStatements.{sound_built}
-use Rattle.session_evaluation.proofs.EvaluationsExist.{evaluated_value, evaluation_exists}
+use Rattle.session_evaluation.proofs.EvaluationsExist.{evaluation_exists}
+use Rattle.session_evaluation.proofs.GoodAnswers.{evaluated_value}
 use Rattle.session_evaluation.proofs.Meanings.{meant}
 use Rattle.hopf.proofs.OneOutcome.{values_left}
 use Rattle.hopf.proofs.OneTranscript.{FromPart}

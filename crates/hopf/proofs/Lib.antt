@@ -4,6 +4,7 @@ mod Existence
 mod OneOutcome
 mod OneTranscript
 mod ReadStatements
+mod RefusalsOfRows
 mod Runs
 mod Sessions
 mod Statements

@@ -1,5 +1,5 @@
 //! Laws of sessions. Their functions compute nothing: callers cite their clauses.
-ghost use Rattle.hopf.specs.Laws.{TranscriptLaw};
+ghost use Rattle.hopf.specs.Laws.{ReadBackLaw, TranscriptLaw};
 ghost use Rattle.hopf.specs.Sessions.{PendingLaw};
 
 use crate::session::Session;
@@ -14,4 +14,10 @@ pub fn transcript_law()
 /// all that may be.
 pub fn pending_law(session: &Session)
     ensures { PendingLaw session.now }
+{}
+
+/// A line that a session prints for a value can be entered again, in that session or in another one,
+/// and prints the same line.
+pub fn read_back_law()
+    ensures { ReadBackLaw }
 {}

@@ -1,3 +1,2 @@
-pub mod BuiltBases
 pub mod Scalars
 pub mod Uniqueness

@@ -2,38 +2,31 @@
 use Rattle.std.proofs.Common.{◌≡◌, ℕ, zero, suc, ◌+◌, ◌*◌, ◌^◌, ◌<◌, ◌≤◌, ◌⊎◌, List, [], ◌∷◌, ◌++◌, length, take, inl, inr, refl, sym, ◌∙◌, ap, subst, arith, unsigned_abs, add-one}
 use Rattle.std.proofs.Math.IntN.{ℤ, pos, ◌+ℤ◌, ◌*ℤ◌, *ℤ_comm}
 use Rattle.std.proofs.Math.Nat.{mul-le-mul}
-use Rattle.std.specs.Prelude.{All, Bool, true, false, ◌||◌, if◌then◌else◌, nat_eq}
-use Rattle.std.proofs.lemmas.Bool.{eqb-false}
-use Rattle.std.proofs.lemmas.List.{length-map, take_all}
+use Rattle.std.specs.Prelude.{All}
+use Rattle.std.proofs.lemmas.List.{take_all}
 use Rattle.std.proofs.lemmas.List.Sums.{sum_by-append}
 use Rattle.hopf_num.specs.Fractions.{Ratio}
 use Rattle.realisations.specs.Combinations.{Combination, IsCanonical, IsLowest, HasKey, norm_of, term_at, weighed}
-use Rattle.realisations.specs.Bases.{kind_of}
-use Rattle.realisations.specs.Readings.{Terms, leaf, product, tensor, AgreeAt}
+use Rattle.realisations.specs.Indices.{degree_of, total_degree}
+use Rattle.realisations.specs.Readings.{Terms, leaf, product, AgreeAt}
 use Rattle.realisations.proofs.Coefficients.{Codes}
 use Rattle.realisations.proofs.Linearity.{weighed-append}
+use Rattle.index_rules.proofs.TensorsExist.{tensor_exists}
 use Rattle.linear_combos.proofs.Edits.{lowest_one, zero_canonical}
 use Rattle.linear_combos.proofs.Gathering.{gathered}
 use Rattle.basis_names.specs.declared.bases.BasisId.{BasisId}
 use Rattle.hopf_laws.specs.Bases.{least_limit}
 use Rattle.hopf_laws.specs.Values.{Expansion, IsValue, Expands, reading_of, degree_of_value}
-use Rattle.basis_routes.specs.declared.checks.Check.TheVariants.{SameRank, DegreeWithin}
 use Rattle.basis_routes.specs.Checks.{Passes}
-use Rattle.basis_routes.specs.Joins.{joined, join_checks}
 use Rattle.basis_routes.proofs.Degrees.{least_limit-small}
-use Rattle.basis_routes.proofs.Rows.{passes_earlier, passes_last}
 use Rattle.basis_routes.proofs.RulesExist.{elements_product_exists}
 use Rattle.hopf_ops.specs.Gathering.{IsGathered, AreFactors, AreFactorKeys, IsProductOfKeys, AreGathered, AddsMultiple, degree_of_product}
-use Rattle.hopf_ops.specs.Operations.{common_checks, has_scalar, product_room, component_checks, product_checks, product_bases}
+use Rattle.hopf_ops.specs.Operations.{product_room}
 use Rattle.hopf_ops.proofs.Gathering.{none_gathered, factor_keys, product_room as next_room, product_gathered, row_gathered, all_gathered}
 use Rattle.hopf_ops.proofs.MultiplesExist.{multiple_exists}
 use Rattle.hopf_ops.proofs.ProductsOfKeys.{other_factors, one_component, more_components, norms_room}
 use Rattle.hopf_ops.proofs.ProductsOfValues.{room_of_dens, room_of_norms, degree_over, of_indices, gathered_value, gathered_reads}
-use Rattle.hopf_ops.proofs.ScalarProductsExist.{scalar_product_exists}
-use Rattle.hopf_ops.proofs.SumsExist.{AreOfRank, times, weighed-times_factor, norm-times_factor, keys-times_factor, keys-append, rank-of_keys, keys-of_rank, passes_later}
-use Rattle.hopf_ops.proofs.SumsOfValues.{same_bases, joined-same}
-use Rattle.hopf_ops.proofs.TensorsExist.{tensor_combination_exists}
-use Rattle.hopf_ops.specs.ReadingOperations.{is_scalar, product_or_tensor}
+use Rattle.hopf_ops.proofs.SumsExist.{AreOfRank, times, weighed-times_factor, norm-times_factor, keys-times_factor, keys-append, rank-of_keys, keys-of_rank}
 
 -- two keys of indices whose degrees add to at most the limit have a product
 pub keys_product_exists : (bases : List BasisId) (left right : Codes) → 1 ≤ length bases → AreFactorKeys bases left right → (c : Combination) × IsProductOfKeys bases left right c
@@ -47,8 +40,9 @@ keys_product_exists (basis ∷ next ∷ bases) (x ∷ k) (y ∷ l) some h =
     let first = elements_product_exists basis x y h.built.0 h.left_indices.0 h.right_indices.0 (omega (arith, h.degree)) in
     let others = keys_product_exists (next ∷ bases) k l (omega arith) (other_factors basis (next ∷ bases) x y k l h (omega arith)) in
     let dens : first.0.den * others.0.den ≡ 1 = λ i. first.1.whole i * others.1.whole i in
-    let both = tensor_combination_exists first.0 others.0 first.1.canonical others.1.canonical (omega (arith, dens))
-    (norms_room _ _ _ _ first.1.small others.1.small (omega (arith, h.degree, least_limit-small (basis ∷ next ∷ bases)))) in
+    let both = tensor_exists first.0 others.0 first.1.canonical others.1.canonical
+    (norms_room (norm_of first.0.terms) (norm_of others.0.terms) (degree_of basis x + degree_of basis y) (total_degree (next ∷ bases) k + total_degree (next ∷ bases) l)
+    first.1.small others.1.small (omega (arith, h.degree, least_limit-small (basis ∷ next ∷ bases)))) (omega (arith, dens)) in
     (both.0, more_components basis (next ∷ bases) x y k l first.0 others.0 both.0 first.1 others.1 both.1.tensor both.1.canonical)
 
 -- a canonical combination to which a multiple of another was added
@@ -154,7 +148,7 @@ module _ (bases : List BasisId) (a b : Combination) (factors : AreFactors bases 
       (all.0, all_gathered bases a b all.0 all.1.canonical all.1.gathered)
 
 -- values over the same bases have a product, where it is within the limit and has room
-product_value : (a b : Expansion) → IsValue a → IsValue b → b.bases ≡ a.bases → 1 ≤ length a.bases → degree_of_value a + degree_of_value b ≤ least_limit a.bases
+pub product_value : (a b : Expansion) → IsValue a → IsValue b → b.bases ≡ a.bases → 1 ≤ length a.bases → degree_of_value a + degree_of_value b ≤ least_limit a.bases
     → All Passes (product_room (5 * (degree_of_value a + degree_of_value b)) a b) → (v : Expansion) × Expands a.bases (product (reading_of a) (reading_of b)) v
 product_value a b ha hb same some within room =
     let x = a.combination in
@@ -181,39 +175,3 @@ product_value a b ha hb same some within room =
             (gathered_reads a.bases n x y g.0 c.0 g.1 c.1.multiple ps points);
       },
     )
-
-first_false : (p q : Bool) → (p || q) ≡ false → p ≡ false
-first_false true q e = e
-first_false false q e = refl
-
--- what is no scalar has a component
-some_components : (m : ℕ) (q : Bool) → (nat_eq m 0 || q) ≡ false → 1 ≤ m
-some_components zero q e = absurd (eqb-false 0 0 (first_false (nat_eq 0 0) q e) refl)
-some_components (suc m) q e = omega arith
-
--- where the checks of a product component by component pass, it has a value
-pub product_exists : (a b : Expansion) → IsValue a → IsValue b → has_scalar a b ≡ false → All Passes (component_checks a b)
-    → (v : Expansion) × Expands (joined a.bases b.bases) (product (reading_of a) (reading_of b)) v
-product_exists a b ha hb scalar pass =
-    let n = degree_of_value a + degree_of_value b in
-    let common = passes_earlier (common_checks n a b) (product_room (5 * n) a b) pass in
-    let room = passes_later (common_checks n a b) (product_room (5 * n) a b) pass in
-    let long : length a.bases ≡ length b.bases = pass 0 (SameRank 0 0) (omega arith) in
-    let join : joined a.bases b.bases ≡ a.bases = joined-same a.bases b.bases ha.built hb.built long in
-    let within : n ≤ least_limit (joined a.bases b.bases) =
-    passes_last (SameRank (length a.bases) (length b.bases) ∷ join_checks a.bases b.bases) (DegreeWithin n (least_limit (joined a.bases b.bases))) common in
-    subst (λ bases. (v : Expansion) × Expands bases (product (reading_of a) (reading_of b)) v) (sym join)
-    (product_value a b ha hb (sym (same_bases a.bases b.bases ha.built hb.built long)) (some_components (length a.bases) (is_scalar (reading_of b)) (ap (λ n. nat_eq n 0 || is_scalar (reading_of b)) (sym (length-map a.bases kind_of)) ∙ scalar))
-    (subst (λ bases. n ≤ least_limit bases) join within) room)
-
--- by whether one of the values is a scalar
-product_by_case : (s : Bool) (a b : Expansion) → IsValue a → IsValue b → has_scalar a b ≡ s → All Passes (product_checks a b)
-    → (v : Expansion) × Expands (product_bases a b) (product_or_tensor (reading_of a) (reading_of b)) v
-product_by_case true a b ha hb is pass = scalar_product_exists a b ha hb is pass
-product_by_case false a b ha hb is pass =
-    subst (λ (s : Bool). (v : Expansion) × Expands (if s then a.bases ++ b.bases else joined a.bases b.bases) (if s then tensor (reading_of a) (reading_of b) else product (reading_of a) (reading_of b)) v) (sym is)
-    (product_exists a b ha hb is (subst (λ (s : Bool). All Passes (if s then product_room 0 a b else component_checks a b)) is pass))
-
--- two values that pass the checks of a product have one
-pub any_product_exists : (a b : Expansion) → IsValue a → IsValue b → All Passes (product_checks a b) → (v : Expansion) × Expands (product_bases a b) (product_or_tensor (reading_of a) (reading_of b)) v
-any_product_exists a b ha hb pass = product_by_case (has_scalar a b) a b ha hb refl pass

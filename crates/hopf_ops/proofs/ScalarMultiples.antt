@@ -1,26 +1,20 @@
 -- The product with a scalar as a multiple.
-use Rattle.std.proofs.Common.{◌≡◌, ◌⊎◌, ℕ, ◌+◌, ◌*◌, ◌^◌, ◌<◌, inl, inr, Bool, true, false, List, [], ◌∷◌, ◌++◌, length, map, refl, sym, ◌∙◌, ap, subst, arith, unsigned_abs}
-use Rattle.std.specs.Prelude.{All, if◌then◌else◌, nat_eq, ◌||◌}
+use Rattle.std.proofs.Common.{◌≡◌, ◌*◌, ◌^◌, ◌<◌, inl, inr, [], ◌∷◌, ◌++◌, length, refl, sym, ◌∙◌, ap, subst, arith, unsigned_abs}
+use Rattle.std.specs.Prelude.{All}
 use Rattle.std.proofs.Math.IntN.{ℤ, pos, ◌+ℤ◌, ◌*ℤ◌, *ℤ_comm, *ℤ-zero}
 use Rattle.std.proofs.Math.Nat.{mul_comm}
 use Rattle.std.proofs.lemmas.Int.{ints}
 use Rattle.std.proofs.lemmas.List.{append-nil}
 use Rattle.hopf_num.specs.Fractions.{Ratio}
 use Rattle.hopf_num.proofs.Ring.{*ℤ_assoc, +ℤ-*ℤ}
-use Rattle.basis_names.specs.declared.bases.BasisId.{BasisId}
-use Rattle.realisations.specs.Bases.{kind_of}
-use Rattle.realisations.specs.Points.{ArePoints}
 use Rattle.realisations.specs.Combinations.{Combination, IsCanonical, AreTerms, norm_of, weighed}
-use Rattle.realisations.specs.Readings.{Terms, leaf, tensor, product, AgreeAt}
-use Rattle.realisations.proofs.Agreement.{times_turned}
+use Rattle.realisations.specs.Readings.{Terms, leaf, tensor, AgreeAt}
 use Rattle.realisations.proofs.Coefficients.{Codes}
 use Rattle.linear_combos.specs.Combos.{IsMultiple}
 use Rattle.hopf_laws.specs.Values.{Expansion, IsValue, Expands, reading_of, ratio_of}
 use Rattle.hopf_laws.proofs.Scalars.{number_of, scalar_terms, norm-scalar, no_bases, ratio-scalar}
 use Rattle.basis_routes.specs.Checks.{Passes}
-use Rattle.basis_routes.specs.Joins.{joined}
-use Rattle.hopf_ops.specs.Operations.{has_scalar, product_room, product_bases}
-use Rattle.hopf_ops.specs.ReadingOperations.{is_scalar, product_or_tensor}
+use Rattle.hopf_ops.specs.Operations.{product_room}
 use Rattle.hopf_ops.proofs.MultiplesOfValues.{multiple_value}
 use Rattle.hopf_ops.proofs.ProductsOfValues.{room_of_dens, room_of_norms}
 use Rattle.hopf_ops.proofs.TensorsOfValues.{WeighsAsTensor, tensor_reads}
@@ -53,10 +47,6 @@ scalar_left w ts us h = elim (scalar_terms us h) [
   | inl none ↦ ap (weighed (λ left. weighed (λ right. w (left ++ right)) ts)) none ∙ sym (*ℤ-zero (weighed w ts)) ∙ ap (λ vs. weighed w ts *ℤ number_of vs) (sym none)
   | inr some ↦ ap (weighed (λ left. weighed (λ right. w (left ++ right)) ts)) some ∙ omega (arith, ints, *ℤ_comm (number_of us) (weighed w ts))
 ]
-
-or_true : (p : Bool) → (p || true) ≡ true
-or_true true = refl
-or_true false = refl
 
 module _ (a b : Expansion) (ha : IsValue a) (hb : IsValue b) (none : length b.bases ≡ 0) where
   terms : AreTerms 0 b.combination.terms
@@ -101,25 +91,21 @@ module _ (a b : Expansion) (ha : IsValue a) (hb : IsValue b) (none : length b.ba
     before = ap (λ bs. bs ++ a.bases) (sym no_more)
 
     -- the multiple is the product with the scalar behind
-    pub product_right : (v : Expansion) → v ≡ record { bases = a.bases; combination = c } → Expands (product_bases a b) (product_or_tensor (reading_of a) (reading_of b)) v
+    pub product_right : (v : Expansion) → v ≡ record { bases = a.bases; combination = c } → Expands (a.bases ++ b.bases) (tensor (reading_of a) (reading_of b)) v
     product_right v made =
-        let scalar : has_scalar a b ≡ true = ap (λ bs. is_scalar (reading_of a) || nat_eq (length (map kind_of bs)) 0) no_more ∙ or_true (is_scalar (reading_of a)) in
         let expands : Expands (a.bases ++ b.bases) (tensor (reading_of a) (reading_of b)) (record { bases = a.bases; combination = c }) = record {
           value = multiple_value a (ratio_of b) c ha is canonical;
           over = behind;
           reads = λ ps points. subst (λ bs. AgreeAt (leaf bs c.den c.terms) (tensor (reading_of a) (reading_of b)) ps) (sym behind) (tensor_reads a b c ha weighs_right ps points);
         } in
-        subst (λ (s : Bool). Expands (if s then a.bases ++ b.bases else joined a.bases b.bases) (if s then tensor (reading_of a) (reading_of b) else product (reading_of a) (reading_of b)) v) (sym scalar)
-        (subst (Expands (a.bases ++ b.bases) (tensor (reading_of a) (reading_of b))) (sym made) expands)
+        subst (Expands (a.bases ++ b.bases) (tensor (reading_of a) (reading_of b))) (sym made) expands
 
     -- and with the scalar in front
-    pub product_left : (v : Expansion) → v ≡ record { bases = a.bases; combination = c } → Expands (product_bases b a) (product_or_tensor (reading_of b) (reading_of a)) v
+    pub product_left : (v : Expansion) → v ≡ record { bases = a.bases; combination = c } → Expands (b.bases ++ a.bases) (tensor (reading_of b) (reading_of a)) v
     product_left v made =
-        let scalar : has_scalar b a ≡ true = ap (λ bs. nat_eq (length (map kind_of bs)) 0 || is_scalar (reading_of a)) no_more in
         let expands : Expands (b.bases ++ a.bases) (tensor (reading_of b) (reading_of a)) (record { bases = a.bases; combination = c }) = record {
           value = multiple_value a (ratio_of b) c ha is canonical;
           over = before;
           reads = λ ps points. subst (λ bs. AgreeAt (leaf bs c.den c.terms) (tensor (reading_of b) (reading_of a)) ps) (sym before) (tensor_reads b a c hb weighs_left ps points);
         } in
-        subst (λ (s : Bool). Expands (if s then b.bases ++ a.bases else joined b.bases a.bases) (if s then tensor (reading_of b) (reading_of a) else product (reading_of b) (reading_of a)) v) (sym scalar)
-        (subst (Expands (b.bases ++ a.bases) (tensor (reading_of b) (reading_of a))) (sym made) expands)
+        subst (Expands (b.bases ++ a.bases) (tensor (reading_of b) (reading_of a))) (sym made) expands

@@ -1,19 +1,17 @@
 -- The law of existence for products with a scalar, which are tensor products.
-use Rattle.std.proofs.Common.{◌≡◌, ℕ, ◌+◌, ◌*◌, ◌^◌, ◌<◌, ◌≤◌, ◌⊎◌, inl, inr, Bool, true, false, ◌++◌, length, refl, ◌∙◌, sym, subst, arith}
-use Rattle.std.specs.Prelude.{All, if◌then◌else◌, nat_eq, ◌||◌}
+use Rattle.std.proofs.Common.{◌≡◌, ℕ, ◌+◌, ◌*◌, ◌^◌, ◌<◌, ◌≤◌, ◌⊎◌, inl, inr, Bool, true, false, ◌++◌, length, refl, ◌∙◌, sym, arith}
+use Rattle.std.specs.Prelude.{All, nat_eq, ◌||◌}
 use Rattle.std.proofs.lemmas.Bool.{eqb-true}
 use Rattle.std.proofs.lemmas.List.{length-map}
 use Rattle.realisations.specs.Combinations.{norm_of}
 use Rattle.realisations.specs.Bases.{kind_of}
-use Rattle.realisations.specs.Readings.{tensor, product}
+use Rattle.realisations.specs.Readings.{tensor}
 use Rattle.hopf_laws.specs.Values.{Expansion, IsValue, Expands, reading_of}
 use Rattle.basis_routes.specs.Checks.{Passes}
-use Rattle.basis_routes.specs.Joins.{joined}
-use Rattle.hopf_ops.specs.Operations.{has_scalar, product_room, component_checks, product_checks, product_bases}
+use Rattle.hopf_ops.specs.Operations.{has_scalar, product_room}
 use Rattle.hopf_ops.proofs.ProductsOfValues.{room_of_dens, room_of_norms}
 use Rattle.hopf_ops.proofs.TensorsExist.{tensor_value}
 use Rattle.hopf_ops.proofs.TensorsOfValues.{scalar_within}
-use Rattle.hopf_ops.specs.ReadingOperations.{product_or_tensor}
 
 one_true : (p q : Bool) → (p || q) ≡ true → (p ≡ true) ⊎ (q ≡ true)
 one_true true q e = inl refl
@@ -38,10 +36,3 @@ scalar_product_value a b ha hb scalar pass =
     let none : (length a.bases ≡ 0) ⊎ (length b.bases ≡ 0) = one_none (length a.bases) (length b.bases) (sym (λ i. nat_eq (length-map a.bases kind_of i) 0 || nat_eq (length-map b.bases kind_of i) 0) ∙ scalar) in
     let norms : norm_of a.combination.terms * norm_of b.combination.terms * 2 ^ 0 < 2 ^ 127 = room_of_norms 0 a b pass in
     tensor_value a b ha hb (scalar_short (length a.bases) (length b.bases) ha.short hb.short none) (scalar_within a b ha hb none) (room_of_dens 0 a b pass) (omega (arith, norms))
-
--- and this is the product
-pub scalar_product_exists : (a b : Expansion) → IsValue a → IsValue b → has_scalar a b ≡ true → All Passes (product_checks a b)
-    → (v : Expansion) × Expands (product_bases a b) (product_or_tensor (reading_of a) (reading_of b)) v
-scalar_product_exists a b ha hb scalar pass =
-    subst (λ (s : Bool). (v : Expansion) × Expands (if s then a.bases ++ b.bases else joined a.bases b.bases) (if s then tensor (reading_of a) (reading_of b) else product (reading_of a) (reading_of b)) v) (sym scalar)
-    (scalar_product_value a b ha hb scalar (subst (λ (s : Bool). All Passes (if s then product_room 0 a b else component_checks a b)) scalar pass))

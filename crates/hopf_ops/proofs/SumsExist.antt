@@ -1,7 +1,7 @@
 -- The law of existence for sums: two values that pass the checks have a value that reads as their sum or difference.
 use Rattle.std.proofs.Common.{◌≡◌, ◌⊎◌, ℕ, zero, suc, ◌+◌, ◌*◌, ◌/◌, ◌^◌, ◌<◌, ◌≤◌, List, [], ◌∷◌, ◌++◌, map, length, inl, inr, refl, sym, ◌∙◌, ap, subst, arith, unsigned_abs}
 use Rattle.std.proofs.Math.IntN.{ℤ, pos, negsuc, ◌+ℤ◌, ◌*ℤ◌, zero-*ℤ}
-use Rattle.std.specs.Prelude.{All, Bool, true, false, max}
+use Rattle.std.specs.Prelude.{All, Bool, true, false}
 use Rattle.std.proofs.lemmas.Int.{ints, unsigned_abs-mul}
 use Rattle.std.proofs.lemmas.List.Elements.{All-nil, All-cons, All-append, All-head, All-tail}
 use Rattle.std.proofs.lemmas.List.Sums.{sum_by-cons, sum_by-append}
@@ -17,14 +17,13 @@ use Rattle.realisations.proofs.Linearity.{weighed-append}
 use Rattle.linear_combos.proofs.SumsOfCombos.{IsSignedSum-combined, IsSum-signed, IsDifference-signed}
 use Rattle.basis_names.specs.declared.bases.BasisId.{BasisId}
 use Rattle.hopf_laws.specs.Bases.{least_limit}
-use Rattle.hopf_laws.specs.Values.{Expansion, IsValue, Expands, degree_of_value, reading_of}
-use Rattle.basis_routes.specs.declared.checks.Check.{Check}
+use Rattle.hopf_laws.specs.Values.{Expansion, IsValue, Expands, reading_of}
 use Rattle.basis_routes.specs.declared.checks.Check.TheVariants.{SameRank, Joined, DegreeWithin, Room}
 use Rattle.basis_routes.specs.Checks.{Passes, IsCheck}
 use Rattle.basis_routes.specs.Joins.{joined, join_checks}
-use Rattle.hopf_ops.specs.Operations.{common_checks, sum_checks}
+use Rattle.hopf_ops.specs.Operations.{common_checks, sum_room}
 use Rattle.hopf_ops.specs.Answers.{IsSumOrDifference}
-use Rattle.hopf_ops.proofs.LowestExist.{combination_exists}
+use Rattle.hopf_ops.proofs.LowestExist.{combination_exists, value_over}
 use Rattle.hopf_ops.proofs.SumsOfValues.{sum_over, sum_reads}
 use Rattle.hopf_ops.specs.ReadingOperations.{sum_or_difference}
 
@@ -143,31 +142,23 @@ sum_of_combos_exists minus m a b ha hb same least small room =
     times_one : (k n : ℕ) → k * (n * 1) ≡ k * n
     times_one k n = omega arith
 
--- the later checks of a row that passes
-pub passes_later : (checks later : List Check) → All Passes (checks ++ later) → All Passes later
-passes_later [] later h = h
-passes_later (check ∷ checks) later h = passes_later checks later (All-tail Passes check (checks ++ later) h)
-
--- two values that pass the checks of a sum have one
-pub sum_exists : (m : ℕ) (minus : Bool) (a b : Expansion) → IsValue a → IsValue b → IsLcm a.combination.den b.combination.den m → All Passes (sum_checks m a b)
-    → (v : Expansion) × Expands (joined a.bases b.bases) (sum_or_difference minus (reading_of a) (reading_of b)) v
-sum_exists m minus a b ha hb least pass =
+-- two values over the same bases have a sum and a difference, where the sum rule holds
+pub sum_exists : (m : ℕ) (minus : Bool) (a b : Expansion) → IsValue a → IsValue b → a.bases ≡ b.bases → IsLcm a.combination.den b.combination.den m → All Passes (sum_room m a b)
+    → (v : Expansion) × Expands a.bases (sum_or_difference minus (reading_of a) (reading_of b)) v
+sum_exists m minus a b ha hb same least room =
     let x = a.combination in
     let y = b.combination in
     let common = Room (CommonDenominator x.den y.den) in
     let sum = Room (Sum (norm_of x.terms) (m / x.den) (norm_of y.terms) (m / y.den)) in
-    let long : length a.bases ≡ length b.bases = pass 0 (SameRank 0 0) (omega arith) in
-    let room : All Passes (common ∷ sum ∷ []) =
-    passes_later (common_checks (max (degree_of_value a) (degree_of_value b)) a b) (common ∷ sum ∷ []) pass in
-    let small : m < 2 ^ 127 = (common_room x.den y.den m ha.canonical.lowest.positive hb.canonical.lowest.positive least).1 (All-head Passes common (sum ∷ []) room) in
+    let small : m < 2 ^ 127 =
+    (common_room x.den y.den m ha.canonical.lowest.positive hb.canonical.lowest.positive least).1 (All-head Passes common (sum ∷ []) room) in
     let fits : norm_of x.terms * (m / x.den) + norm_of y.terms * (m / y.den) < 2 ^ 127 = All-head Passes sum [] (All-tail Passes common (sum ∷ []) room) in
-    let e = sum_of_combos_exists minus m x y ha.canonical hb.canonical (ha.rank ∙ long ∙ sym hb.rank) least small fits in
-    let over = sum_over minus a b e.0 ha hb long e.2 in (
-      record { bases = joined a.bases b.bases; combination = e.0 },
+    let e = sum_of_combos_exists minus m x y ha.canonical hb.canonical (ha.rank ∙ ap (λ (bs : List BasisId). length bs) same ∙ sym hb.rank) least small fits in (
+      record { bases = a.bases; combination = e.0 },
       record {
-        value = record { short = over.short; built = over.built; rank = over.rank; canonical = e.1; indices = over.indices; degrees = over.degrees };
+        value = value_over a.bases e.0 (sum_over minus a b e.0 ha hb same e.2) e.1;
         over = refl;
-        reads = λ ps points. sum_reads minus a b e.0 ha hb long e.2 ps;
+        reads = λ ps points. sum_reads minus a b e.0 same e.2 ps;
       },
     )
 
@@ -186,13 +177,11 @@ common_checks_are degree a b =
     (All-cons IsCheck ranks (join_checks a.bases b.bases) tt (join_checks_are a.bases b.bases))
     (All-cons IsCheck within [] tt (All-nil IsCheck))
 
--- and all of a sum, since denominators are at least 1
-pub sum_checks_are : (m : ℕ) (a b : Expansion) → IsValue a → IsValue b → All IsCheck (sum_checks m a b)
-sum_checks_are m a b ha hb =
+-- and the sum rule, since denominators are at least 1
+pub sum_room_are : (m : ℕ) (a b : Expansion) → IsValue a → IsValue b → All IsCheck (sum_room m a b)
+sum_room_are m a b ha hb =
     let x = a.combination in
     let y = b.combination in
     let common = Room (CommonDenominator x.den y.den) in
     let sum = Room (Sum (norm_of x.terms) (m / x.den) (norm_of y.terms) (m / y.den)) in
-    let degree = max (degree_of_value a) (degree_of_value b) in
-    All-append IsCheck (common_checks degree a b) (common ∷ sum ∷ []) (common_checks_are degree a b)
-    (All-cons IsCheck common (sum ∷ []) (ha.canonical.lowest.positive, hb.canonical.lowest.positive) (All-cons IsCheck sum [] tt (All-nil IsCheck)))
+    All-cons IsCheck common (sum ∷ []) (ha.canonical.lowest.positive, hb.canonical.lowest.positive) (All-cons IsCheck sum [] tt (All-nil IsCheck))

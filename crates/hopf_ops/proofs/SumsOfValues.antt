@@ -1,44 +1,16 @@
 -- The combination of a sum as a value.
-use Rattle.std.proofs.Common.{◌≡◌, ℕ, ◌*◌, ◌≤◌, ◌⊎◌, inl, inr, List, [], ◌∷◌, length, refl, sym, ◌∙◌, ap, subst, arith}
+use Rattle.std.proofs.Common.{◌≡◌, ℕ, ◌*◌, ◌≤◌, ◌⊎◌, inl, inr, List, sym, ◌∙◌, ap, subst, arith}
 use Rattle.std.proofs.Math.IntN.{ℤ, pos, negsuc, ◌+ℤ◌, ◌*ℤ◌, pos-*ℤ-pos, *ℤ_comm, *ℤ-one, one}
 use Rattle.hopf_num.proofs.Ring.{*ℤ-neg_ℤ}
 use Rattle.realisations.specs.Combinations.{Combination, HasKey}
 use Rattle.realisations.specs.Indices.{AreIndices, total_degree}
 use Rattle.realisations.specs.Readings.{leaf, occurrence, numerator, AgreeAt}
 use Rattle.basis_names.specs.declared.bases.BasisId.{BasisId}
-use Rattle.basis_names.specs.declared.bases.BasisId.TheVariants.{QsymM}
-use Rattle.hopf_laws.specs.Bases.{AreBuilt, least_limit}
+use Rattle.hopf_laws.specs.Bases.{least_limit}
 use Rattle.hopf_laws.specs.Values.{Expansion, IsValue, reading_of}
-use Rattle.std.specs.Prelude.{All, Bool, true, false, neg_ℤ, unwrap_or}
-use Rattle.basis_routes.specs.declared.checks.Check.TheVariants.{SameRank}
-use Rattle.basis_routes.specs.Checks.{Passes}
-use Rattle.basis_routes.specs.JoinTable.{join_of}
-use Rattle.basis_routes.specs.Joins.{joined}
-use Rattle.hopf_laws.proofs.BuiltBases.{only_built}
-use Rattle.hopf_ops.specs.Operations.{common_checks}
+use Rattle.std.specs.Prelude.{Bool, true, false, neg_ℤ}
 use Rattle.hopf_ops.specs.Answers.{IsOver, IsSumOrDifference}
 use Rattle.hopf_ops.specs.ReadingOperations.{sum_or_difference}
-
--- while there is one built basis, lists of one length are the same, and so are their joins
-pub same_bases : (lefts rights : List BasisId) → AreBuilt lefts → AreBuilt rights → length lefts ≡ length rights → lefts ≡ rights
-same_bases [] [] hl hr e = refl
-same_bases [] (right ∷ rights) hl hr e = absurd (omega arith)
-same_bases (left ∷ lefts) [] hl hr e = absurd (omega arith)
-same_bases (left ∷ lefts) (right ∷ rights) hl hr e =
-    let first : left ≡ right = only_built left hl.0 ∙ sym (only_built right hr.0) in
-    let others = same_bases lefts rights hl.1 hr.1 (omega arith) in
-    λ i. first i ∷ others i
-
-join-same : (left right : BasisId) → left ≡ QsymM → right ≡ QsymM → unwrap_or (join_of left right) left ≡ left
-join-same left right l r = rw (l, r) refl
-
-pub joined-same : (lefts rights : List BasisId) → AreBuilt lefts → AreBuilt rights → length lefts ≡ length rights → joined lefts rights ≡ lefts
-joined-same [] rights hl hr e = refl
-joined-same (left ∷ lefts) [] hl hr e = absurd (omega arith)
-joined-same (left ∷ lefts) (right ∷ rights) hl hr e =
-    let first = join-same left right (only_built left hl.0) (only_built right hr.0) in
-    let others = joined-same lefts rights hl.1 hr.1 (omega arith) in
-    λ i. first i ∷ others i
 
 -- keys of one of two values over the same bases
 key_of_either : (a b : Expansion) → IsValue a → IsValue b → a.bases ≡ b.bases → (key : List (List ℕ)) → HasKey a.combination.terms key ⊎ HasKey b.combination.terms key
@@ -57,18 +29,16 @@ keys_of : (minus : Bool) (a b c : Combination) → IsSumOrDifference minus a b c
 keys_of true a b c is = is.keys
 keys_of false a b c is = is.keys
 
--- the sum or difference is over the joined bases
-pub sum_over : (minus : Bool) (a b : Expansion) (c : Combination) → IsValue a → IsValue b → length a.bases ≡ length b.bases
-    → IsSumOrDifference minus a.combination b.combination c → IsOver (joined a.bases b.bases) c
-sum_over minus a b c ha hb long is =
-    let same = same_bases a.bases b.bases ha.built hb.built long in
-    subst (λ bases. IsOver bases c) (sym (joined-same a.bases b.bases ha.built hb.built long)) (record {
-      short = ha.short;
-      built = ha.built;
-      rank = rank_of minus a.combination b.combination c is ∙ ha.rank;
-      indices = λ key has. (key_of_either a b ha hb same key (keys_of minus a.combination b.combination c is key has)).0;
-      degrees = λ key has. (key_of_either a b ha hb same key (keys_of minus a.combination b.combination c is key has)).1;
-    })
+-- the sum or difference is over the same bases
+pub sum_over : (minus : Bool) (a b : Expansion) (c : Combination) → IsValue a → IsValue b → a.bases ≡ b.bases
+    → IsSumOrDifference minus a.combination b.combination c → IsOver a.bases c
+sum_over minus a b c ha hb same is = record {
+  short = ha.short;
+  built = ha.built;
+  rank = rank_of minus a.combination b.combination c is ∙ ha.rank;
+  indices = λ key has. (key_of_either a b ha hb same key (keys_of minus a.combination b.combination c is key has)).0;
+  degrees = λ key has. (key_of_either a b ha hb same key (keys_of minus a.combination b.combination c is key has)).1;
+}
 
 times-minus_one : (z : ℤ) → negsuc 0 *ℤ z ≡ neg_ℤ z
 unfolding one
@@ -98,15 +68,9 @@ reads_over true bases a b c is ps =
         ap neg_ℤ (*ℤ_comm z (pos n)) ∙ sym (*ℤ-neg_ℤ (pos n) z) ∙ *ℤ_comm (pos n) (neg_ℤ z)
         ∙ ap (λ y. y *ℤ pos n) (sym (times-minus_one z))
 
--- so it reads over the joined bases
-pub sum_reads : (minus : Bool) (a b : Expansion) (c : Combination) → IsValue a → IsValue b → length a.bases ≡ length b.bases → IsSumOrDifference minus a.combination b.combination c
-    → (ps : List (List ℕ)) → AgreeAt (leaf ((joined a.bases b.bases)) c.den c.terms) (sum_or_difference minus (reading_of a) (reading_of b)) ps
-sum_reads minus a b c ha hb long is ps =
-    let same = same_bases a.bases b.bases ha.built hb.built long in
-    subst (λ bases. AgreeAt (leaf bases c.den c.terms) (sum_or_difference minus (reading_of a) (reading_of b)) ps) (sym (joined-same a.bases b.bases ha.built hb.built long))
-    (subst (λ bases. AgreeAt (leaf a.bases c.den c.terms) (sum_or_difference minus (reading_of a) (reading_of (record { bases = bases; combination = b.combination }))) ps) same
-    (reads_over minus a.bases a.combination b.combination c is ps))
-
--- two values that pass their common checks have one rank
-pub same_rank : (degree : ℕ) (a b : Expansion) → All Passes (common_checks degree a b) → length a.bases ≡ length b.bases
-same_rank degree a b pass = pass 0 (SameRank 0 0) (omega arith)
+-- so do two values over the same bases
+pub sum_reads : (minus : Bool) (a b : Expansion) (c : Combination) → a.bases ≡ b.bases → IsSumOrDifference minus a.combination b.combination c
+    → (ps : List (List ℕ)) → AgreeAt (leaf a.bases c.den c.terms) (sum_or_difference minus (reading_of a) (reading_of b)) ps
+sum_reads minus a b c same is ps =
+    subst (λ bases. AgreeAt (leaf a.bases c.den c.terms) (sum_or_difference minus (reading_of a) (reading_of (record { bases = bases; combination = b.combination }))) ps) same
+    (reads_over minus a.bases a.combination b.combination c is ps)

@@ -1,34 +1,26 @@
--- The law of existence: where all checks of an operation pass, there is a value that it answers.
-use Rattle.std.specs.Prelude.{◌⊎◌, ℕ, Bool, List, ◌++◌, All}
-use Rattle.hopf_num.specs.Divisors.{IsLcm}
-use Rattle.realisations.specs.Readings.{tensor}
-use Rattle.hopf_laws.specs.Values.{Expansion, IsValue, Expands, reading_of}
-use Rattle.basis_routes.specs.declared.checks.Check.{Check}
-use Rattle.basis_routes.specs.declared.refusal.Refusal.{Refusal}
-use Rattle.basis_routes.specs.Checks.{Passes, IsCheck, IsFirstFailing}
-use Rattle.basis_routes.specs.Joins.{joined}
-use Rattle.hopf_ops.specs.Operations.{sum_checks, quotient_checks, tensor_checks, product_checks, product_bases}
-use Rattle.hopf_ops.specs.ReadingOperations.{negative, sum_or_difference, product_or_tensor, quotient}
+-- The laws of rows: each operation has exactly one answer, and a value that it answers is what the operation is on readings, whatever was converted on the way.
+use Rattle.realisations.specs.Readings.{applied, coproduct, counit, mult}
+use Rattle.hopf_laws.specs.Values.{Expansion, IsValue, reading_of}
+use Rattle.basis_routes.specs.declared.place.Place.{Place}
+use Rattle.basis_routes.specs.Lists.{doubled, without}
+use Rattle.basis_routes.specs.Places.{position_of}
+use Rattle.basis_routes.specs.Rows.{Decides}
+use Rattle.hopf_ops.specs.declared.operator.Operator.{Operator}
+use Rattle.hopf_ops.specs.Operations.{RowOf, result_bases, NegationRow, CoproductRow, CounitRow, MultRow, mult_bases}
+use Rattle.hopf_ops.specs.ReadingOperations.{combined, negative}
 
--- of checks, all pass, or one is the first that fails
-abbrev pub ChecksDecided : Type 0
-ChecksDecided = (checks : List Check) → All IsCheck checks → All Passes checks ⊎ ((refusal : Refusal) × IsFirstFailing checks refusal)
+-- the operation of an operator
+abbrev pub OperatorLaw : Type 0
+OperatorLaw = (o : Operator) (a b : Expansion) → IsValue a → IsValue b → Decides (RowOf o a b) (result_bases o a b) (combined o (reading_of a) (reading_of b))
 
--- a sum or a difference, where m is the least common multiple of the denominators
-abbrev pub SumExists : Type 0
-SumExists = (m : ℕ) (minus : Bool) (a b : Expansion) → IsValue a → IsValue b → IsLcm a.combination.den b.combination.den m → All Passes (sum_checks m a b)
-    → (v : Expansion) × Expands (joined a.bases b.bases) (sum_or_difference minus (reading_of a) (reading_of b)) v
+abbrev pub NegationLaw : Type 0
+NegationLaw = (a : Expansion) → IsValue a → Decides (NegationRow a) a.bases (negative (reading_of a))
 
-abbrev pub NegationExists : Type 0
-NegationExists = (a : Expansion) → IsValue a → (v : Expansion) × Expands a.bases (negative (reading_of a)) v
+abbrev pub CoproductLaw : Type 0
+CoproductLaw = (at : Place) (a : Expansion) → IsValue a → Decides (CoproductRow at a) (doubled (position_of at) a.bases) (applied coproduct (position_of at) (reading_of a))
 
-abbrev pub QuotientExists : Type 0
-QuotientExists = (a b : Expansion) → IsValue a → IsValue b → All Passes (quotient_checks a b) → (v : Expansion) × Expands a.bases (quotient (reading_of a) (reading_of b)) v
+abbrev pub CounitLaw : Type 0
+CounitLaw = (at : Place) (a : Expansion) → IsValue a → Decides (CounitRow at a) (without (position_of at) a.bases) (applied counit (position_of at) (reading_of a))
 
-abbrev pub TensorExists : Type 0
-TensorExists = (a b : Expansion) → IsValue a → IsValue b → All Passes (tensor_checks a b)
-    → (v : Expansion) × Expands (a.bases ++ b.bases) (tensor (reading_of a) (reading_of b)) v
-
--- a product
-abbrev pub ProductExists : Type 0
-ProductExists = (a b : Expansion) → IsValue a → IsValue b → All Passes (product_checks a b) → (v : Expansion) × Expands (product_bases a b) (product_or_tensor (reading_of a) (reading_of b)) v
+abbrev pub MultLaw : Type 0
+MultLaw = (at : Place) (a : Expansion) → IsValue a → Decides (MultRow at a) (mult_bases (position_of at) a.bases) (applied mult (position_of at) (reading_of a))

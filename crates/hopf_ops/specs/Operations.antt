@@ -1,15 +1,25 @@
--- The operations on values: for each the checks in order and the bases of its answer. What its answer reads as is in `ReadingOperations`.
-use Rattle.std.specs.Prelude.{ℕ, ◌+◌, ◌*◌, max, ◌||◌, if◌then◌else◌, Bool, List, [], ◌∷◌, ◌++◌, length, unsigned_abs}
+-- The operations on values: for each its row, which says what it checks, which operands it converts, in order, and what it answers. What its answer reads as is in `ReadingOperations`.
+use Rattle.std.specs.Prelude.{◌≡◌, ℕ, zero, suc, ◌+◌, ◌*◌, max, ◌||◌, if◌then◌else◌, Bool, true, false, List, [], ◌∷◌, ◌++◌, length, unsigned_abs, unwrap_or}
+use Rattle.hopf_num.specs.Divisors.{IsLcm}
 use Rattle.hopf_num.specs.Room.{product_rule, sum_rule}
 use Rattle.realisations.specs.Combinations.{norm_of}
+use Rattle.realisations.specs.Readings.{applied, coproduct as of_coproduct, counit as of_counit, mult as of_mult, product, tensor}
 use Rattle.basis_names.specs.declared.bases.BasisId.{BasisId}
 use Rattle.hopf_laws.specs.Bases.{least_limit}
 use Rattle.hopf_laws.specs.Values.{Expansion, reading_of, ratio_of, degree_of_value}
 use Rattle.basis_routes.specs.declared.checks.Check.{Check}
-use Rattle.basis_routes.specs.declared.checks.Check.TheVariants.{SameRank, RankWithin, Scalar, Nonzero, DegreeWithin}
+use Rattle.basis_routes.specs.declared.checks.Check.TheVariants.{SameRank, RankWithin, Scalar, Nonzero, Joined, DegreeWithin}
+use Rattle.basis_routes.specs.declared.place.Place.{Place}
 use Rattle.basis_routes.specs.Checks.{room_checks}
+use Rattle.basis_routes.specs.Conversions.{linear_checks, ConvertsAt, BothConvert}
+use Rattle.basis_routes.specs.JoinTable.{join_of}
 use Rattle.basis_routes.specs.Joins.{joined, join_checks}
-use Rattle.hopf_ops.specs.ReadingOperations.{is_scalar}
+use Rattle.basis_routes.specs.Lists.{doubled, without}
+use Rattle.basis_routes.specs.Places.{position_of, component_checks, doubling_checks, neighbour_checks}
+use Rattle.basis_routes.specs.Rows.{Row, Checked, Then, Answers}
+use Rattle.hopf_ops.specs.declared.operator.Operator.{Operator}
+use Rattle.hopf_ops.specs.declared.operator.Operator.TheVariants.{Plus, Minus, Hash, Times, Over}
+use Rattle.hopf_ops.specs.ReadingOperations.{is_scalar, negative, sum_or_difference, quotient}
 
 -- that two values have one rank, that each two components have a join, and that the degree of the result is within the least limit of the joins
 abbrev pub common_checks : ℕ → Expansion → Expansion → List Check
@@ -18,11 +28,26 @@ common_checks degree a b =
     ∷ join_checks a.bases b.bases
     ++ DegreeWithin degree (least_limit (joined a.bases b.bases)) ∷ []
 
--- a sum or a difference, where m is the least common multiple of the denominators
-abbrev pub sum_checks : ℕ → Expansion → Expansion → List Check
-sum_checks m a b =
-    common_checks (max (degree_of_value a) (degree_of_value b)) a b
-    ++ room_checks (sum_rule m a.combination.den b.combination.den (norm_of a.combination.terms) (norm_of b.combination.terms))
+-- Sums and differences.
+
+-- the sum rule of two values, where m is the least common multiple of their denominators
+abbrev pub sum_room : ℕ → Expansion → Expansion → List Check
+sum_room m x y = room_checks (sum_rule m x.combination.den y.combination.den (norm_of x.combination.terms) (norm_of y.combination.terms))
+
+-- both operands are converted to these bases, and what they came to is tested by the sum rule; the answer is the sum or the difference of the operands
+abbrev pub SumOver : Bool → List BasisId → Expansion → Expansion → Row
+SumOver minus targets a b = BothConvert targets a b (λ x y answer.
+    (m : ℕ) × IsLcm x.combination.den y.combination.den m × Checked (sum_room m x y) (Answers targets (sum_or_difference minus (reading_of a) (reading_of b))) answer)
+
+-- a sum or a difference: Rank, Mixed and Degree; the conversions; the sum rule
+abbrev pub SumRow : Bool → Expansion → Expansion → Row
+SumRow minus a b = Checked (common_checks (max (degree_of_value a) (degree_of_value b)) a b) (SumOver minus (joined a.bases b.bases) a b)
+
+-- the value with the other sign
+abbrev pub NegationRow : Expansion → Row
+NegationRow a = Answers a.bases (negative (reading_of a))
+
+-- Products and quotients.
 
 -- one of two values is a scalar
 abbrev pub has_scalar : Expansion → Expansion → Bool
@@ -33,27 +58,95 @@ abbrev pub product_room : ℕ → Expansion → Expansion → List Check
 product_room shift a b =
     room_checks (product_rule a.combination.den b.combination.den (norm_of a.combination.terms) (norm_of b.combination.terms) shift)
 
--- a product component by component
-abbrev pub component_checks : Expansion → Expansion → List Check
-component_checks a b =
-    common_checks (degree_of_value a + degree_of_value b) a b ++ product_room (5 * (degree_of_value a + degree_of_value b)) a b
+-- both operands are converted to these bases, and what they came to is tested by the product rule; the answer is the product of the operands, component by component
+abbrev pub ProductOver : List BasisId → Expansion → Expansion → Row
+ProductOver targets a b = BothConvert targets a b (λ x y.
+    Checked (product_room (5 * (degree_of_value x + degree_of_value y)) x y) (Answers targets (product (reading_of a) (reading_of b))))
 
-abbrev pub product_checks : Expansion → Expansion → List Check
-product_checks a b = if has_scalar a b then product_room 0 a b else component_checks a b
+-- a product component by component: Rank, Mixed and Degree; the conversions; the product rule
+abbrev pub ComponentRow : Expansion → Expansion → Row
+ComponentRow a b = Checked (common_checks (degree_of_value a + degree_of_value b) a b) (ProductOver (joined a.bases b.bases) a b)
+
+-- a product, which with a scalar is the tensor product
+abbrev pub ProductBy : Bool → Expansion → Expansion → Row
+ProductBy true a b = Checked (product_room 0 a b) (Answers (a.bases ++ b.bases) (tensor (reading_of a) (reading_of b)))
+ProductBy false a b = ComponentRow a b
+
+abbrev pub ProductRow : Expansion → Expansion → Row
+ProductRow a b = ProductBy (has_scalar a b) a b
 
 abbrev pub product_bases : Expansion → Expansion → List BasisId
 product_bases a b = if has_scalar a b then a.bases ++ b.bases else joined a.bases b.bases
 
--- a tensor product
+-- a tensor product: Rank, Degree, the product rule
 abbrev pub tensor_checks : Expansion → Expansion → List Check
 tensor_checks a b =
     RankWithin (length a.bases + length b.bases)
     ∷ DegreeWithin (degree_of_value a + degree_of_value b) (least_limit (a.bases ++ b.bases))
     ∷ product_room 0 a b
 
--- a quotient by a scalar: the product with its reciprocal
+abbrev pub TensorRow : Expansion → Expansion → Row
+TensorRow a b = Checked (tensor_checks a b) (Answers (a.bases ++ b.bases) (tensor (reading_of a) (reading_of b)))
+
+-- a quotient by a scalar: NotScalar, ZeroDivisor, the rule of the product with its reciprocal
 abbrev pub quotient_checks : Expansion → Expansion → List Check
 quotient_checks a b =
     Scalar (length b.bases)
     ∷ Nonzero (ratio_of b).num
     ∷ room_checks (product_rule a.combination.den (unsigned_abs (ratio_of b).num) (norm_of a.combination.terms) b.combination.den 0)
+
+abbrev pub QuotientRow : Expansion → Expansion → Row
+QuotientRow a b = Checked (quotient_checks a b) (Answers a.bases (quotient (reading_of a) (reading_of b)))
+
+-- the row of each operator, and the bases of its answer
+abbrev pub RowOf : Operator → Expansion → Expansion → Row
+RowOf Plus a b = SumRow false a b
+RowOf Minus a b = SumRow true a b
+RowOf Hash a b = TensorRow a b
+RowOf Times a b = ProductRow a b
+RowOf Over a b = QuotientRow a b
+
+abbrev pub result_bases : Operator → Expansion → Expansion → List BasisId
+result_bases Plus a b = joined a.bases b.bases
+result_bases Minus a b = joined a.bases b.bases
+result_bases Hash a b = a.bases ++ b.bases
+result_bases Times a b = product_bases a b
+result_bases Over a b = a.bases
+
+-- Operations on components.
+
+-- the coproduct of a component, whose parts take its place: Rank, Component, the linear rule
+abbrev pub CoproductRow : Place → Expansion → Row
+CoproductRow at a =
+    Checked (doubling_checks at (length a.bases) ++ linear_checks a)
+    (Answers (doubled (position_of at) a.bases) (applied of_coproduct (position_of at) (reading_of a)))
+
+-- the counit of a component, which goes away: Rank, Component
+abbrev pub CounitRow : Place → Expansion → Row
+CounitRow at a =
+    Checked (component_checks at (length a.bases))
+    (Answers (without (position_of at) a.bases) (applied of_counit (position_of at) (reading_of a)))
+
+-- the product of two neighbours over bases with a join: both are converted to it, the first before the second; the linear rule of what they came to
+abbrev pub NeighbourProduct : List BasisId → List BasisId → BasisId → Expansion → Row
+NeighbourProduct before after join a =
+    Then (ConvertsAt (length before) join a) (λ x. Then (ConvertsAt (length before + 1) join x) (λ y.
+    Checked (linear_checks y) (Answers (before ++ join ∷ after) (applied of_mult (length before) (reading_of a)))))
+
+-- the product of component n, counted from 0, and the next one: Mixed, Degree, and then the same
+abbrev pub MultAt : ℕ → Expansion → Row
+MultAt n a answer =
+    (before : List BasisId) × (left : BasisId) × (right : BasisId) × (after : List BasisId)
+    × (a.bases ≡ before ++ left ∷ right ∷ after) × (length before ≡ n)
+    × Checked (Joined left right ∷ DegreeWithin (degree_of_value a) (least_limit (before ++ unwrap_or (join_of left right) left ∷ after)) ∷ [])
+    (NeighbourProduct before after (unwrap_or (join_of left right) left) a) answer
+
+-- the product of a component and the next one, which take one place: Rank, Component, and then the same
+abbrev pub MultRow : Place → Expansion → Row
+MultRow at a = Checked (neighbour_checks at (length a.bases)) (MultAt (position_of at) a)
+
+-- the bases of its answer: the join in the place of component n and the next one
+abbrev pub mult_bases : ℕ → List BasisId → List BasisId
+mult_bases zero (left ∷ right ∷ bases) = unwrap_or (join_of left right) left ∷ bases
+mult_bases (suc n) (basis ∷ bases) = basis ∷ mult_bases n bases
+mult_bases _ bases = bases

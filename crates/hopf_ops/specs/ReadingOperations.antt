@@ -2,6 +2,8 @@
 use Rattle.std.specs.Prelude.{Bool, true, false, ◌||◌, if◌then◌else◌, negsuc, [], length, nat_eq}
 use Rattle.hopf_num.specs.Fractions.{Ratio, reciprocal}
 use Rattle.realisations.specs.Readings.{Reading, product, tensor, sum_of, multiple, kinds_of, numerator, denominator}
+use Rattle.hopf_ops.specs.declared.operator.Operator.{Operator}
+use Rattle.hopf_ops.specs.declared.operator.Operator.TheVariants.{Plus, Minus, Hash, Times, Over}
 
 abbrev pub negative : Reading → Reading
 negative a = multiple (negsuc 0) 1 a
@@ -29,3 +31,11 @@ ratio a = record { num = numerator a []; den = denominator a }
 -- the quotient by a scalar: the multiple by its reciprocal
 abbrev pub quotient : Reading → Reading → Reading
 quotient a b = multiple (reciprocal (ratio b)).num (reciprocal (ratio b)).den a
+
+-- two readings combined by an operator
+abbrev pub combined : Operator → Reading → Reading → Reading
+combined Plus a b = sum_of a b
+combined Minus a b = difference a b
+combined Hash a b = tensor a b
+combined Times a b = product_or_tensor a b
+combined Over a b = quotient a b

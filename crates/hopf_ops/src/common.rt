@@ -1,11 +1,11 @@
 //! What operations on two values have in common.
-ghost use Rattle.std.specs.Prelude.{◌≡◌, ◌≤◌, [], ◌∷◌, max, IfOk};
+ghost use Rattle.std.specs.Prelude.{◌≡◌, ◌≤◌, [], ◌∷◌, max, IfOk, unwrap_or};
 ghost use Rattle.hopf_laws.specs.Values.{IsValue, degree_of_value};
 ghost use Rattle.basis_routes.specs.declared.checks.Check.TheVariants.{DegreeWithin};
 ghost use Rattle.basis_routes.specs.Checks.{Tests};
 ghost use Rattle.basis_routes.specs.Joins.{joined};
 ghost use Rattle.hopf_ops.specs.Operations.{common_checks};
-ghost use Rattle.hopf_ops.specs.Answers.{IsOver, IsAnswerOver};
+ghost use Rattle.hopf_ops.specs.Answers.{AreTargets, IsOver, IsAnswerOver};
 
 use basis_routes::{Bases, Check, Refusal, Value};
 use linear_combos::{Combo, ComboFault};
@@ -14,6 +14,7 @@ use linear_combos::{Combo, ComboFault};
 pub(crate) fn common_bases(a: &Value, b: &Value, degree: u32) -> Result<Bases, Refusal>
     ensures checks { Tests (common_checks degree a.now b.now) result }
     ensures value { IfOk result (λ bases. bases ≡ joined a.now.bases b.now.bases) }
+    ensures targets { IfOk result (λ bases. AreTargets bases degree a.now b.now) }
 {
     Check::SameRank {
         left: a.rank(),
@@ -33,6 +34,7 @@ pub(crate) fn common_bases(a: &Value, b: &Value, degree: u32) -> Result<Bases, R
 pub(crate) fn common_bases_of_sum(a: &Value, b: &Value) -> Result<Bases, Refusal>
     ensures checks { Tests (common_checks (max (degree_of_value a.now) (degree_of_value b.now)) a.now b.now) result }
     ensures value { IfOk result (λ bases. bases ≡ joined a.now.bases b.now.bases) }
+    ensures targets { IfOk result (λ bases. AreTargets bases (max (degree_of_value a.now) (degree_of_value b.now)) a.now b.now) }
 {
     Check::SameRank {
         left: a.rank(),
@@ -69,6 +71,16 @@ pub(crate) fn over_bases(bases: Bases, combo: Result<Combo, ComboFault>) -> Resu
         Ok(combo) => Ok(Value::over(bases, combo)),
         Err(ComboFault::TooLarge(need)) => Err(Refusal::TooLarge(need)),
         Err(ComboFault::Memory) => Err(Refusal::Memory),
+    }
+}
+
+// What was made of a value, or the value itself where nothing was.
+pub(crate) fn made_or_given<'a>(made: &'a Option<Value>, given: &'a Value) -> &'a Value
+    ensures { result.now ≡ unwrap_or made.now given.now }
+{
+    match made {
+        Some(value) => value,
+        None => given,
     }
 }
 

@@ -1,14 +1,14 @@
-//! The law of existence. Its function computes nothing: callers cite its clauses.
-ghost use Rattle.hopf_ops.specs.Laws.{ChecksDecided, SumExists, NegationExists, QuotientExists, TensorExists, ProductExists};
+//! The laws of rows. A function here computes nothing: callers cite its clauses.
+ghost use Rattle.hopf_ops.specs.Laws.{OperatorLaw, NegationLaw, CoproductLaw, CounitLaw, MultLaw};
 
-/// Of the checks of an operation all pass, or one is the first that fails; and where all pass, there
-/// is a value that it answers. So no clause that speaks of its value holds for want of one. Here for
-/// sums, differences, negations, quotients, tensor products and products.
-pub fn existence_law()
-    ensures decided { ChecksDecided }
-    ensures sum { SumExists }
-    ensures negation { NegationExists }
-    ensures quotient { QuotientExists }
-    ensures tensor { TensorExists }
-    ensures product { ProductExists }
+/// Each operation has exactly one answer on values. Where this is a value, it reads as the operation on
+/// the operands that were given, whatever was converted on the way.
+///
+/// Nothing is computed: callers cite the clauses.
+pub fn row_law()
+    ensures operator { OperatorLaw }
+    ensures negation { NegationLaw }
+    ensures coproduct { CoproductLaw }
+    ensures counit { CounitLaw }
+    ensures mult { MultLaw }
 {}

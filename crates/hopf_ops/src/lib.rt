@@ -1,17 +1,21 @@
-//! Operations on values, each with its row of checks.
+//! Operations on values, each with its row of checks and conversions.
 //!
-//! Its `specs/` say for each operation what it checks of its operands, in order, over which bases its
-//! answer stands and what the answer reads as.
+//! Its `specs/` say for each operation what it checks of its operands and which it converts, in order, over
+//! which bases its answer stands and what the answer reads as.
 #![tactic(auto)]
 
 mod common;
+mod components;
 mod gather;
 mod laws;
 mod multiples;
+mod operator;
 mod products;
 mod sums;
 
-pub use laws::existence_law;
+pub use components::{coproduct, counit, mult};
+pub use laws::row_law;
 pub use multiples::{divide, divided, negate, negated};
+pub use operator::Operator;
 pub use products::{tensor, times, times_by, times_onto};
 pub use sums::{add, add_to, sub, sub_from};

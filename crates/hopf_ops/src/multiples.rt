@@ -1,11 +1,11 @@
 //! Negation, and the quotient by a scalar.
-ghost use Rattle.std.specs.Prelude.{◌≡◌, ◌*◌, ◌^◌, ◌<◌, negsuc, [], unsigned_abs, IfOk};
+ghost use Rattle.std.specs.Prelude.{◌≡◌, ◌*◌, ◌^◌, ◌<◌, negsuc, unsigned_abs};
 ghost use Rattle.realisations.specs.Combinations.{IsCanonical, norm_of};
 ghost use Rattle.linear_combos.specs.Combos.{IsMultiple};
 ghost use Rattle.hopf_laws.specs.Values.{Expands, reading_of};
-ghost use Rattle.basis_routes.specs.Checks.{Tests};
-ghost use Rattle.hopf_ops.specs.Operations.{quotient_checks};
-ghost use Rattle.hopf_ops.specs.ReadingOperations.{negative, quotient};
+ghost use Rattle.basis_routes.specs.Rows.{OrMemory};
+ghost use Rattle.hopf_ops.specs.Operations.{NegationRow, QuotientRow};
+ghost use Rattle.hopf_ops.specs.ReadingOperations.{negative};
 
 use crate::common::over_bases;
 use basis_routes::{Check, Refusal, Value};
@@ -15,8 +15,7 @@ use std::alloc::Global;
 
 /// The value with the other sign. Want of memory is its only refusal. The cost is one pass.
 pub fn negate(alloc: Global, a: &Value) -> Result<Value, Refusal>
-    ensures checks { Tests [] result }
-    ensures value { IfOk result (Expands a.now.bases (negative (reading_of a.now))) }
+    ensures { OrMemory (NegationRow a.now) result }
 {
     over_bases(
         a.bases().copy(),
@@ -58,8 +57,7 @@ fn minus_one() -> Fraction
 /// Its checks, in order: the divisor is a scalar (`NotScalar`) and not 0 (`ZeroDivisor`), and the
 /// product with its reciprocal has room (`TooLarge`). The cost is one pass.
 pub fn divide(alloc: Global, a: &Value, b: &Value) -> Result<Value, Refusal>
-    ensures checks { Tests (quotient_checks a.now b.now) result }
-    ensures value { IfOk result (Expands a.now.bases (quotient (reading_of a.now) (reading_of b.now))) }
+    ensures { OrMemory (QuotientRow a.now b.now) result }
 {
     let Some(divisor) = b.as_fraction() else {
         return Err(Refusal::NotScalar);
@@ -74,8 +72,7 @@ pub fn divide(alloc: Global, a: &Value, b: &Value) -> Result<Value, Refusal>
 /// The quotient by a scalar, made of the first value. Its checks are those of `divide`. It takes no
 /// memory.
 pub fn divided(a: Value, b: &Value) -> Result<Value, Refusal>
-    ensures checks { Tests (quotient_checks a b.now) result }
-    ensures value { IfOk result (Expands a.bases (quotient (reading_of a) (reading_of b.now))) }
+    ensures { OrMemory (QuotientRow a b.now) result }
 {
     let Some(divisor) = b.as_fraction() else {
         return Err(Refusal::NotScalar);

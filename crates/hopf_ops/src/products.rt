@@ -1,18 +1,18 @@
 //! Tensor products, and products.
-ghost use Rattle.std.specs.Prelude.{◌≡◌, ◌+◌, ◌*◌, ◌≤◌, [], ◌++◌, length, All, IfOk};
+ghost use Rattle.std.specs.Prelude.{◌≡◌, ◌+◌, ◌*◌, ◌≤◌, ◌++◌, length, All, IfOk};
 ghost use Rattle.realisations.specs.Readings.{product as multiply, tensor as tensor_of};
 ghost use Rattle.hopf_laws.specs.Bases.{least_limit};
 ghost use Rattle.hopf_laws.specs.Values.{IsValue, Expands, reading_of, degree_of_value};
 ghost use Rattle.basis_routes.specs.Checks.{Passes, Tests};
-ghost use Rattle.hopf_ops.specs.Operations.{product_room, component_checks, product_checks, product_bases, tensor_checks};
-ghost use Rattle.basis_routes.specs.Joins.{joined};
-ghost use Rattle.hopf_ops.specs.ReadingOperations.{product_or_tensor};
+ghost use Rattle.basis_routes.specs.Rows.{OrMemory};
+ghost use Rattle.hopf_ops.specs.Answers.{AreTargets};
+ghost use Rattle.hopf_ops.specs.Operations.{ComponentRow, ProductOver, ProductRow, TensorRow, product_room};
 
-use crate::common::{common_bases, den_of, over_bases};
+use crate::common::{common_bases, den_of, made_or_given, over_bases};
 use crate::gather::gathered_products;
 use crate::multiples::scaled_with_room;
-use basis_routes::{Bases, Check, Refusal, Value};
-use hopf_num::Need;
+use basis_routes::{Bases, Check, Refusal, Value, converted_operand};
+use hopf_num::{Need, OutOfMemory};
 use linear_combos::Combo;
 use std::alloc::Global;
 
@@ -20,10 +20,9 @@ use std::alloc::Global;
 ///
 /// Its checks, in order: there are at most 3 components (`Rank`), the degrees add to at most the least
 /// limit of all bases (`Degree`), and the product of the denominators and that of the norms have room
-/// (`TooLarge`). The cost is one step for each two terms.
+/// (`TooLarge`). Nothing is converted. The cost is one step for each two terms.
 pub fn tensor(alloc: Global, a: &Value, b: &Value) -> Result<Value, Refusal>
-    ensures checks { Tests (tensor_checks a.now b.now) result }
-    ensures value { IfOk result (Expands (a.now.bases ++ b.now.bases) (tensor_of (reading_of a.now) (reading_of b.now))) }
+    ensures { OrMemory (TensorRow a.now b.now) result }
 {
     Check::RankWithin {
         rank: a.rank() + b.rank(),
@@ -42,13 +41,15 @@ pub fn tensor(alloc: Global, a: &Value, b: &Value) -> Result<Value, Refusal>
 ///
 /// With a scalar the only checks are that the product of the denominators and that of the norms have
 /// room (`TooLarge`). Else its checks are, in order: the ranks are equal (`Rank`), each two components
-/// have a join (`Mixed`), the degrees add to at most the least limit of the joins (`Degree`), and the
-/// product of the denominators and that of the norms times 2^(5n), n the sum of the degrees, have room
-/// (`TooLarge`). The cost is that of one product of basis elements for each two terms, and of sorting
-/// their terms.
+/// have a join (`Mixed`), and the degrees add to at most the least limit of the joins (`Degree`). Then each
+/// operand is brought to the joins, component by component, the first operand before the second: a
+/// component that has another basis is converted where the norm of what the value is then, times 2^(5n), n
+/// the degree, has room (`TooLarge`). At last the product of the denominators of what they became, and
+/// that of their norms times 2^(5n), n the sum of the degrees, have room (`TooLarge`). The cost is that of
+/// the conversions, of one product of basis elements for each two terms, and of sorting their terms; an
+/// operand over the joins is not copied.
 pub fn times(alloc: Global, a: &Value, b: &Value) -> Result<Value, Refusal>
-    ensures checks { Tests (product_checks a.now b.now) result }
-    ensures value { IfOk result (Expands (product_bases a.now b.now) (product_or_tensor (reading_of a.now) (reading_of b.now))) }
+    ensures { OrMemory (ProductRow a.now b.now) result }
 {
     if a.rank() == 0 || b.rank() == 0 {
         return tensor_over(alloc, a, b, a.bases().followed_by(b.bases()));
@@ -56,11 +57,10 @@ pub fn times(alloc: Global, a: &Value, b: &Value) -> Result<Value, Refusal>
     product_by_components(alloc, a, b)
 }
 
-/// The product, made of the first value where the second one is a scalar. Its checks are those of
-/// `times`. With a scalar it takes no memory, and the cost is one pass.
+/// The product, made of the first value where the second one is a scalar. Its checks and conversions are
+/// those of `times`. With a scalar it takes no memory, and the cost is one pass.
 pub fn times_by(alloc: Global, a: Value, b: &Value) -> Result<Value, Refusal>
-    ensures checks { Tests (product_checks a b.now) result }
-    ensures value { IfOk result (Expands (product_bases a b.now) (product_or_tensor (reading_of a) (reading_of b.now))) }
+    ensures { OrMemory (ProductRow a b.now) result }
 {
     let Some(factor) = b.as_fraction() else {
         return times(alloc, &a, b);
@@ -71,11 +71,10 @@ pub fn times_by(alloc: Global, a: Value, b: &Value) -> Result<Value, Refusal>
     Ok(Value::over(bases, combo))
 }
 
-/// The product, made of the second value where the first one is a scalar. Its checks are those of
-/// `times`. With a scalar it takes no memory, and the cost is one pass.
+/// The product, made of the second value where the first one is a scalar. Its checks and conversions are
+/// those of `times`. With a scalar it takes no memory, and the cost is one pass.
 pub fn times_onto(alloc: Global, a: &Value, b: Value) -> Result<Value, Refusal>
-    ensures checks { Tests (product_checks a.now b) result }
-    ensures value { IfOk result (Expands (product_bases a.now b) (product_or_tensor (reading_of a.now) (reading_of b))) }
+    ensures { OrMemory (ProductRow a.now b) result }
 {
     let Some(factor) = a.as_fraction() else {
         return times(alloc, a, &b);
@@ -89,13 +88,36 @@ pub fn times_onto(alloc: Global, a: &Value, b: Value) -> Result<Value, Refusal>
 // The product component by component.
 fn product_by_components(alloc: Global, a: &Value, b: &Value) -> Result<Value, Refusal>
     requires some { 1 ≤ length a.now.bases }
-    ensures checks { Tests (component_checks a.now b.now) result }
-    ensures value { IfOk result (Expands (joined a.now.bases b.now.bases) (multiply (reading_of a.now) (reading_of b.now))) }
+    ensures { OrMemory (ComponentRow a.now b.now) result }
 {
-    let degree = a.degree() + b.degree();
-    let bases = common_bases(a, b, degree)?;
-    test_room(a, b, 5 * degree)?;
-    multiplied(alloc, a, b, bases)
+    let targets = common_bases(a, b, a.degree() + b.degree())?;
+    product_over(alloc, a, b, &targets)
+}
+
+// The same over these bases, to which both operands are brought.
+fn product_over(alloc: Global, a: &Value, b: &Value, targets: &Bases) -> Result<Value, Refusal>
+    requires some { 1 ≤ length targets.now }
+    requires targets { AreTargets targets.now (degree_of_value a.now + degree_of_value b.now) a.now b.now }
+    ensures { OrMemory (ProductOver targets.now a.now b.now) result }
+{
+    let x = converted_operand(alloc, a, targets)?;
+    let y = converted_operand(alloc, b, targets)?;
+    product_of_same(alloc, made_or_given(&x, a), made_or_given(&y, b))
+}
+
+// The product of two values over the same bases.
+fn product_of_same(alloc: Global, a: &Value, b: &Value) -> Result<Value, Refusal>
+    requires some { 1 ≤ length a.now.bases }
+    requires same { a.now.bases ≡ b.now.bases }
+    requires degree { degree_of_value a.now + degree_of_value b.now ≤ least_limit a.now.bases }
+    ensures checks { Tests (product_room (5 * (degree_of_value a.now + degree_of_value b.now)) a.now b.now) result }
+    ensures value { IfOk result (Expands a.now.bases (multiply (reading_of a.now) (reading_of b.now))) }
+{
+    test_room(a, b, 5 * (a.degree() + b.degree()))?;
+    match multiplied(alloc, a, b) {
+        Ok(product) => Ok(product),
+        Err(OutOfMemory) => Err(Refusal::Memory),
+    }
 }
 
 // Whether the product of two values, whose norm may grow by 2^shift, has room.
@@ -122,20 +144,16 @@ fn test_room(a: &Value, b: &Value, shift: u32) -> Result<(), Refusal>
     .test()
 }
 
-// The product of two values of one rank, where it has room.
-fn multiplied(alloc: Global, a: &Value, b: &Value, bases: Bases) -> Result<Value, Refusal>
-    requires some { 1 ≤ length bases }
-    requires left { a.now.bases ≡ bases }
-    requires right { b.now.bases ≡ bases }
-    requires degree { degree_of_value a.now + degree_of_value b.now ≤ least_limit bases }
+// The product of two values over the same bases, where it has room.
+fn multiplied(alloc: Global, a: &Value, b: &Value) -> Result<Value, OutOfMemory>
+    requires some { 1 ≤ length a.now.bases }
+    requires same { a.now.bases ≡ b.now.bases }
+    requires degree { degree_of_value a.now + degree_of_value b.now ≤ least_limit a.now.bases }
     requires room { All Passes (product_room (5 * (degree_of_value a.now + degree_of_value b.now)) a.now b.now) }
-    ensures checks { Tests [] result }
-    ensures value { IfOk result (Expands bases (multiply (reading_of a.now) (reading_of b.now))) }
+    ensures { IfOk result (Expands a.now.bases (multiply (reading_of a.now) (reading_of b.now))) }
 {
-    let Ok(product) = gathered_products(alloc, &bases, a.combo(), b.combo()) else {
-        return Err(Refusal::Memory);
-    };
-    Ok(Value::over(bases, product.over(den_of(a) * den_of(b))))
+    let product = gathered_products(alloc, a.bases(), a.combo(), b.combo())?;
+    Ok(Value::over(a.bases().copy(), product.over(den_of(a) * den_of(b))))
 }
 
 // The tensor product over the bases of both values.

@@ -1,5 +1,5 @@
 -- The tokens of the text of a basis element stand for the basis and the list that spells its index.
-use Rattle.std.proofs.Common.{◌≡◌, ℕ, zero, suc, ◌+◌, ◌≤◌, List, [], ◌∷◌, ◌++◌, map, length, refl, sym, ◌∙◌, ap, subst, arith, append-nil}
+use Rattle.std.proofs.Common.{◌≡◌, ℕ, zero, suc, ◌+◌, ◌≤◌, List, [], ◌∷◌, ◌++◌, map, length, refl, sym, ◌∙◌, ap, subst, arith, append-nil, append_assoc}
 use Rattle.std.specs.Prelude.{codes}
 use Rattle.std.specs.List.{AllByRecursion, range_with_len}
 use Rattle.basis_names.specs.declared.bases.BasisId.{BasisId}
@@ -43,15 +43,30 @@ small_rows : (code : List ℕ) (k n : ℕ) → IsCode code → AllByRecursion Ar
 small_rows code k zero h = tt
 small_rows code k (suc n) h = (small_code (places_of k 1 code) (IsCode-places k code h), small_rows code (k + 1) n h)
 
--- the text of an index begins with a bracket, and stands for the list
-spelling : (kind : IndexKind) (code : Code) → IsOfKind kind code → degree_by kind code ≤ 12 → (text : List ℕ) → StandAlone text (index_spelling kind code) (list_with (items_by kind code))
-spelling by_composition code h le text = list text code (small_code code (code_from_composition code h (omega (arith, le))))
-spelling by_permutation code h le text = list text code (small_code code (IsCode-permutation code (each_once code h) (omega (arith, le))))
-spelling by_packed_word code h le text = list text code (small_code code (IsCode-packed code (all_letters code h) (omega (arith, le))))
-spelling by_tableau code (rows, standard, same) le text =
+-- the numbers by which an index is spelled are small
+abbrev pub HasSmallNumbers : IndexKind → Code → Type 0
+HasSmallNumbers by_composition code = AreSmall code
+HasSmallNumbers by_permutation code = AreSmall code
+HasSmallNumbers by_packed_word code = AreSmall code
+HasSmallNumbers by_tableau code = AllByRecursion AreSmall (rows_of code)
+HasSmallNumbers by_tree code = Unit {0}
+
+small_numbers : (kind : IndexKind) (code : Code) → IsOfKind kind code → degree_by kind code ≤ 12 → HasSmallNumbers kind code
+small_numbers by_composition code h le = small_code code (code_from_composition code h (omega (arith, le)))
+small_numbers by_permutation code h le = small_code code (IsCode-permutation code (each_once code h) (omega (arith, le)))
+small_numbers by_packed_word code h le = small_code code (IsCode-packed code (all_letters code h) (omega (arith, le)))
+small_numbers by_tableau code (rows, standard, same) le =
     let is_code : IsCode code = subst IsCode same (IsCode-tableau rows standard (omega (arith, length-tableau_code rows, ap length same, le))) in
-    list_of_rows text (rows_of code) (small_rows code 1 (greatest code) is_code)
-spelling by_tree code h le text = pair text (tree_of code)
+    small_rows code 1 (greatest code) is_code
+small_numbers by_tree code h le = tt
+
+-- the text of an index begins with a bracket, and stands for the list
+spelling : (kind : IndexKind) (code : Code) → HasSmallNumbers kind code → (text : List ℕ) → StandAlone text (index_spelling kind code) (list_with (items_by kind code))
+spelling by_composition code small text = list text code small
+spelling by_permutation code small text = list text code small
+spelling by_packed_word code small text = list text code small
+spelling by_tableau code small text = list_of_rows text (rows_of code) small
+spelling by_tree code small text = pair text (tree_of code)
 
 opened : (kind : IndexKind) (code : Code) → (bs : List ℕ) × (index_spelling kind code ≡ 91 ∷ bs)
 opened by_composition code = (_, refl)
@@ -64,7 +79,7 @@ opened by_tree code = pair_opened (tree_of code)
     pair_opened empty = (_, refl)
     pair_opened (node l r) = (_, refl)
 
-small_limit : (basis : BasisId) → limit_of (algebra_of basis) ≤ 12
+pub small_limit : (basis : BasisId) → limit_of (algebra_of basis) ≤ 12
 small_limit QsymM = omega arith
 small_limit QsymF = omega arith
 small_limit NcsfS = omega arith
@@ -89,18 +104,29 @@ named WqsymM text bs ls h = word text bs (codes "QSym.M") ls 87 refl refl refl r
 named FsymS text bs ls h = word text bs (codes "Sym.S") ls 70 refl refl refl refl h
 named PbtP text bs ls h = word text bs (codes "BT.P") ls 80 refl refl refl refl h
 
+-- so are those of an index within the limit
+pub small_index : (basis : BasisId) (code : Code) → IsWithinLimit basis code → HasSmallNumbers (index_kind_of basis) code
+small_index basis code h = small_numbers (index_kind_of basis) code h.0 (omega (arith, h.1, small_limit basis))
+
+-- the text of a basis element stands for its lexemes
+pub element_alone : (basis : BasisId) (code : Code) → IsWithinLimit basis code → (text : List ℕ)
+    → StandAlone text (name_of basis ++ index_spelling (index_kind_of basis) code) (lex.Basis basis ∷ list_with (items_by (index_kind_of basis) code))
+element_alone basis code h text bs ls k stands =
+    let kind = index_kind_of basis in
+    let index : List ℕ = index_spelling kind code in
+    let items : List Lexeme = list_with (items_by kind code) ++ ls in
+    let (cs, starts) = opened kind code in
+    let bracket : index ++ bs ≡ 91 ∷ (cs ++ bs) = ap (λ us. us ++ bs) starts in
+    let list_read : StandFor text (91 ∷ (cs ++ bs)) items = subst (λ us. StandFor text us items) bracket (spelling kind code (small_index basis code h) text bs ls k stands) in
+    subst (λ us. StandFor text us (lex.Basis basis ∷ items)) (sym (append_assoc (name_of basis) index bs ∙ ap (λ us. name_of basis ++ us) bracket)) (named basis text (cs ++ bs) items list_read)
+
 -- the tokens of the text of a basis element
 pub element_tokens : (basis : BasisId) (code : Code) → IsWithinLimit basis code → (ts : List Token) → AreTokens 1 (name_of basis ++ index_spelling (index_kind_of basis) code) ts
     → lexemes_of (name_of basis ++ index_spelling (index_kind_of basis) code) ts ≡ lex.Basis basis ∷ list_with (items_by (index_kind_of basis) code)
 element_tokens basis code h ts tokens =
-    let kind = index_kind_of basis in
-    let index : List ℕ = index_spelling kind code in
-    let text : List ℕ = name_of basis ++ index in
-    let ls : List Lexeme = list_with (items_by kind code) in
-    let (bs, starts) = opened kind code in
-    let alone = spelling kind code h.0 (omega (arith, h.1, small_limit basis)) text [] [] tt (nothing_left text) in
-    let list_read : StandFor text index ls = subst (λ us. StandFor text us ls) (append-nil index) (subst (λ us. StandFor text (index ++ []) us) (append-nil ls) alone) in
-    let read : StandFor text text (lex.Basis basis ∷ ls) =
-    subst (λ us. StandFor text (name_of basis ++ us) (lex.Basis basis ∷ ls)) (sym starts) (named basis text bs ls (subst (λ us. StandFor text us ls) starts list_read)) in
+    let text : List ℕ = name_of basis ++ index_spelling (index_kind_of basis) code in
+    let ls : List Lexeme = lex.Basis basis ∷ list_with (items_by (index_kind_of basis) code) in
+    let alone = element_alone basis code h text [] [] tt (nothing_left text) in
+    let read : StandFor text text ls = subst (λ us. StandFor text us ls) (append-nil text) (subst (λ us. StandFor text (text ++ []) us) (append-nil ls) alone) in
     let found = read 0 refl in
     ap (λ us. lexemes_of text us) (tokens_once tokens found.2) ∙ found.3

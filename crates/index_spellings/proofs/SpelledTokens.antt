@@ -27,7 +27,7 @@ pub nothing_left : (text : List ℕ) → StandFor text [] []
 nothing_left text p e = (token kind.End (p + 1) 0, [], at_end, refl)
 
 -- one token in front
-one_more : (text bs : List ℕ) (ls : List Lexeme) (b : ℕ) (front : List ℕ) (k : Kind) → StandFor text bs ls → is_blank b ≡ false
+pub one_more : (text bs : List ℕ) (ls : List Lexeme) (b : ℕ) (front : List ℕ) (k : Kind) → StandFor text bs ls → is_blank b ≡ false
     → first_token b (front ++ bs) ≡ (k, suc (length front)) → StandFor text (b ∷ (front ++ bs)) (lexeme_of k (b ∷ front) ∷ ls)
 one_more text bs ls b front k h solid seen p e =
     let size : ℕ = suc (length front) in
@@ -74,7 +74,7 @@ digits text bs (d ∷ front) ls n are some is small k h =
 abbrev pub StandAlone : List ℕ → List ℕ → List Lexeme → Type 0
 StandAlone text cs items = (bs : List ℕ) (ls : List Lexeme) → StartsWithNoDigit bs → StandFor text bs ls → StandFor text (cs ++ bs) (items ++ ls)
 
-number : (text : List ℕ) (n : ℕ) → n < 2 ^ 127 → StandAlone text (decimal n) (lex.Number n ∷ [])
+pub number : (text : List ℕ) (n : ℕ) → n < 2 ^ 127 → StandAlone text (decimal n) (lex.Number n ∷ [])
 number text n small bs ls k h =
     let is = decimal_is n (omega (arith, small)) in
     digits text bs (decimal n) ls n is.digits is.some is.number small k h

@@ -1,6 +1,8 @@
 -- What a built expression has, by its form.
-use Rattle.std.proofs.Common.{◌≡◌, ℕ, ◌^◌, ◌<◌, List, ◌∷◌, refl, sym, ◌∙◌, ap, subst}
+use Rattle.std.proofs.Common.{◌≡◌, ℕ, ◌^◌, ◌<◌, IsTrue, List, ◌∷◌, refl, sym, ◌∙◌, ap, subst}
 use Rattle.basis_names.specs.declared.bases.BasisId.{BasisId}
+use Rattle.built_bases.specs.Table.{is_built as is_built_basis}
+use Rattle.built_forms.specs.Forms.{is_built_map}
 use Rattle.session_tokens.specs.declared.lexeme.Lexeme.{Lexeme}
 use Rattle.session_grammar.specs.declared.expression.Place.{Place}
 use Rattle.session_evaluation.specs.Elements.{Spells, IsSpelled}
@@ -10,7 +12,7 @@ use Rattle.session_grammar.specs.declared.expression.Expr.TheOpen.{Expr-F}
 use Rattle.session_grammar.specs.declared.expression.Expr.TheViews.{out-roll-Expr}
 use Rattle.session_grammar.specs.declared.expression.Factor.{Factor}
 use Rattle.session_grammar.specs.declared.expression.Signed.{Signed}
-use Rattle.session_evaluation.specs.Built.{IsBuilt, built_number, built_element, built_name, built_sum, built_tensor, built_product, AreBuilt}
+use Rattle.session_evaluation.specs.Built.{IsBuilt, built_number, built_element, built_name, built_conversion, built_function, built_sum, built_tensor, built_product, AreBuilt}
 use Rattle.session_evaluation.specs.Evaluation.{steps_of_sum, steps_of_tensor, steps_of_product}
 use Rattle.session_grammar.specs.declared.expression.Expr.TheOpen as o
 use Rattle.session_grammar.specs.declared.expression.Expr.TheVariants as e
@@ -20,6 +22,8 @@ pub data BuiltForm : Expr-F Expr Factor Signed → Type 0 where
   number_form : {n : ℕ} → n < 2 ^ 127 → BuiltForm (o.Number n)
   element_form : {basis : BasisId} {items : List Lexeme} {code : List ℕ} → Spells basis items code → BuiltForm (o.Element basis items)
   name_form : {name : List ℕ} → BuiltForm (o.Named name)
+  conversion_form : {to : BasisId} {x : Expr} {at : Place} → IsTrue (is_built_basis to) → IsBuilt x → BuiltForm (o.Convert to x at)
+  function_form : {map : Linear} {x : Expr} {at : Place} → IsTrue (is_built_map map) → IsBuilt x → BuiltForm (o.Apply map x at)
   sum_form : (part : Signed) (parts : List Signed) → IsBuilt part.value → AreBuilt (steps_of_sum parts) → BuiltForm (o.Sum (part ∷ parts))
   tensor_form : (part : Expr) (parts : List Expr) → IsBuilt part → AreBuilt (steps_of_tensor parts) → BuiltForm (o.Tensor (part ∷ parts))
   product_form : (part : Factor) (parts : List Factor) → IsBuilt part.value → AreBuilt (steps_of_product parts) → BuiltForm (o.Product (part ∷ parts))
@@ -37,11 +41,11 @@ pub out-name : (name : List ℕ) → out-Expr (e.Named name) ≡ o.Named name
 out-name name = ap out-Expr (sym (e.rolls-Named name)) ∙ out-roll-Expr (o.Named name)
 
 -- A conversion shows its form.
-out-convert : (b : BasisId) (x : Expr) (p : Place) → out-Expr (e.Convert b x p) ≡ o.Convert b x p
+pub out-convert : (b : BasisId) (x : Expr) (p : Place) → out-Expr (e.Convert b x p) ≡ o.Convert b x p
 out-convert b x p = ap out-Expr (sym (e.rolls-Convert b x p)) ∙ out-roll-Expr (o.Convert b x p)
 
 -- A linear function shows its form.
-out-apply : (f : Linear) (x : Expr) (p : Place) → out-Expr (e.Apply f x p) ≡ o.Apply f x p
+pub out-apply : (f : Linear) (x : Expr) (p : Place) → out-Expr (e.Apply f x p) ≡ o.Apply f x p
 out-apply f x p = ap out-Expr (sym (e.rolls-Apply f x p)) ∙ out-roll-Expr (o.Apply f x p)
 
 -- A pairing shows its form.
@@ -69,6 +73,8 @@ pub built_form : (x : Expr) → IsBuilt x → BuiltForm (out-Expr x)
 built_form x (built_number {n = n} small) = subst BuiltForm (sym (out-number n)) (number_form small)
 built_form x (built_element {basis = basis} {items = items} spells) = subst BuiltForm (sym (out-element basis items)) (element_form spells)
 built_form x (built_name {name = name}) = subst BuiltForm (sym (out-name name)) name_form
+built_form x (built_conversion {to = to} {x = y} {at = at} basis built) = subst BuiltForm (sym (out-convert to y at)) (conversion_form basis built)
+built_form x (built_function {map = map} {x = y} {at = at} is built) = subst BuiltForm (sym (out-apply map y at)) (function_form is built)
 built_form x (built_sum part parts first rest) = subst BuiltForm (sym (out-sum (part ∷ parts))) (sum_form part parts first rest)
 built_form x (built_tensor part parts first rest) = subst BuiltForm (sym (out-tensor (part ∷ parts))) (tensor_form part parts first rest)
 built_form x (built_product part parts first rest) = subst BuiltForm (sym (out-product (part ∷ parts))) (product_form part parts first rest)
@@ -90,6 +96,20 @@ built_element-inv basis items built = spelled (form_at (e.Element basis items) (
   where
     spelled : {basis : BasisId} {items : List Lexeme} → BuiltForm (o.Element basis items) → IsSpelled basis items
     spelled (element_form {code = code} spells) = (code, spells)
+
+-- A built conversion is one of a built operand to a built basis.
+pub built_conversion-inv : (to : BasisId) (x : Expr) (at : Place) → IsBuilt (e.Convert to x at) → IsTrue (is_built_basis to) × IsBuilt x
+built_conversion-inv to x at built = taken (form_at (e.Convert to x at) (o.Convert to x at) (out-convert to x at) built)
+  where
+    taken : {to : BasisId} {x : Expr} {at : Place} → BuiltForm (o.Convert to x at) → IsTrue (is_built_basis to) × IsBuilt x
+    taken (conversion_form basis built) = (basis, built)
+
+-- A built function is one that is built, of a built operand.
+pub built_function-inv : (map : Linear) (x : Expr) (at : Place) → IsBuilt (e.Apply map x at) → IsTrue (is_built_map map) × IsBuilt x
+built_function-inv map x at built = taken (form_at (e.Apply map x at) (o.Apply map x at) (out-apply map x at) built)
+  where
+    taken : {map : Linear} {x : Expr} {at : Place} → BuiltForm (o.Apply map x at) → IsTrue (is_built_map map) × IsBuilt x
+    taken (function_form is built) = (is, built)
 
 -- A built sum has a built first part and built later parts.
 pub built_sum-inv : (parts : List Signed) → IsBuilt (e.Sum parts)
@@ -138,14 +158,6 @@ built_product-parts part parts built = taken (form_at (e.Product (part ∷ parts
   where
     taken : {part : Factor} {parts : List Factor} → BuiltForm (o.Product (part ∷ parts)) → IsBuilt part.value × AreBuilt (steps_of_product parts)
     taken (product_form part parts one more) = (one, more)
-
--- No conversion is built.
-pub not_convert : (b : BasisId) (x : Expr) (p : Place) → IsBuilt (e.Convert b x p) → ⊥
-not_convert b x p built = elim (form_at (e.Convert b x p) (o.Convert b x p) (out-convert b x p) built) [ ]
-
--- No linear function is built.
-pub not_apply : (f : Linear) (x : Expr) (p : Place) → IsBuilt (e.Apply f x p) → ⊥
-not_apply f x p built = elim (form_at (e.Apply f x p) (o.Apply f x p) (out-apply f x p) built) [ ]
 
 -- No pairing is built.
 pub not_pair : (x y : Expr) → IsBuilt (e.Pair x y) → ⊥

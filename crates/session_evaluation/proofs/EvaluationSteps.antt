@@ -2,15 +2,20 @@
 use Rattle.std.proofs.Common.{◌≡◌, ◌⊎◌, ℕ, ◌<◌, inl, inr, Bool, true, false, if◌then◌else◌, List, [], ◌∷◌, length, Option, Some, None, option_copied, Ok, Err, Bor, refl, sym, ◌∙◌, ap, subst, arith}
 use Rattle.basis_names.specs.declared.bases.BasisId.{BasisId}
 use Rattle.session_tokens.specs.declared.lexeme.Lexeme.{Lexeme}
+use Rattle.session_tokens.specs.declared.lexeme.Linear.{Linear}
 use Rattle.hopf_laws.specs.Values.{Expansion}
+use Rattle.basis_routes.specs.Conversions.{ConversionRow}
 use Rattle.session_grammar.specs.declared.expression.Expr.{Expr}
-use Rattle.session_evaluation.specs.declared.operator.Operator.{Operator}
-use Rattle.session_evaluation.specs.declared.operator.Operator.TheVariants.{Plus, Minus, Times, Over}
+use Rattle.session_grammar.specs.declared.expression.Place.{Place}
+use Rattle.session_evaluation.specs.Functions.{place_of, LinearRow}
+use Rattle.hopf_ops.specs.declared.operator.Operator.{Operator}
+use Rattle.hopf_ops.specs.declared.operator.Operator.TheVariants.{Plus, Minus, Times, Over}
 use Rattle.session_evaluation.specs.declared.refusal.EvaluationRefusal.{EvaluationRefusal}
 use Rattle.session_evaluation.specs.Names.{Names, value_of}
-use Rattle.session_evaluation.specs.Built.{IsBuilt, built_number, built_element, built_name, built_sum, built_tensor, built_product, AreBuilt, built_step}
-use Rattle.session_evaluation.specs.Evaluation.{Answer, Steps, steps_of_tensor, steps_of_product, OrMemory, number_value, IsElement, Operates, Applies, Signs, is_minus, steps_in, steps_of, Evaluates, number, element, known, unknown, sum, tensor_product, product, Folds, done, refused, step}
-use Rattle.session_evaluation.proofs.BuiltForms.{out-number, out-element, out-name, out-sum, out-tensor, out-product}
+use Rattle.session_evaluation.specs.Built.{IsBuilt, built_number, built_element, built_name, built_conversion, built_function, built_sum, built_tensor, built_product, AreBuilt, built_step}
+use Rattle.session_evaluation.specs.Evaluation.{Answer, Steps, steps_of_tensor, steps_of_product, OrMemory, number_value, Allows, Operates, Applies, Signs, Evaluates, number, element, known, unknown, converted, applied, sum, tensor_product, product, Folds, done, refused, step}
+use Rattle.session_evaluation.specs.EvaluationSteps.{IsElement, is_minus, steps_in, steps_of}
+use Rattle.session_evaluation.proofs.BuiltForms.{out-number, out-element, out-name, out-convert, out-apply, out-sum, out-tensor, out-product}
 use Rattle.basis_routes.specs.declared.refusal.Refusal.TheVariants as value
 use Rattle.session_grammar.specs.declared.expression.Expr.TheVariants as e
 use Rattle.session_evaluation.specs.declared.refusal.EvaluationRefusal.TheVariants as refusal
@@ -36,6 +41,33 @@ pub number_evaluates : (names : Names) (n : ℕ) (answer : Answer) → OrMemory 
 number_evaluates names n answer (inl memory) = inl memory
 number_evaluates names n answer (inr is) = inr (subst (λ (a : Answer). Evaluates names (e.Number n) a) (sym is) number)
 
+-- an answer that is no refusal did not want memory
+not_memory : (P : Answer → Type 0) (a : Expansion) → OrMemory P (Ok a) → P (Ok a)
+not_memory P a (inl memory) = absurd (cc)
+not_memory P a (inr h) = h
+
+-- a conversion of an operand that was evaluated
+pub conversion_evaluates : (names : Names) (to : BasisId) (x : Expr) (at : Place) (a : Expansion) (answer : Answer) → OrMemory (Evaluates names x) (Ok a)
+    → OrMemory (Allows (ConversionRow (place_of at) to a)) answer → OrMemory (Evaluates names (e.Convert to x at)) answer
+conversion_evaluates names to x at a answer h (inl memory) = inl memory
+conversion_evaluates names to x at a answer h (inr allows) = inr (converted (not_memory (Evaluates names x) a h) allows)
+
+-- one whose operand is refused, or wants memory
+pub conversion_refused : (names : Names) (to : BasisId) (x : Expr) (at : Place) (q : EvaluationRefusal) → OrMemory (Evaluates names x) (Err q) → OrMemory (Evaluates names (e.Convert to x at)) (Err q)
+conversion_refused names to x at q (inl memory) = inl memory
+conversion_refused names to x at q (inr h) = inr (converted h refl)
+
+-- a function on an operand that was evaluated
+pub function_evaluates : (names : Names) (map : Linear) (x : Expr) (at : Place) (a : Expansion) (answer : Answer) → OrMemory (Evaluates names x) (Ok a)
+    → OrMemory (Allows (LinearRow map (place_of at) a)) answer → OrMemory (Evaluates names (e.Apply map x at)) answer
+function_evaluates names map x at a answer h (inl memory) = inl memory
+function_evaluates names map x at a answer h (inr allows) = inr (applied (not_memory (Evaluates names x) a h) allows)
+
+-- one whose operand is refused, or wants memory
+pub function_refused : (names : Names) (map : Linear) (x : Expr) (at : Place) (q : EvaluationRefusal) → OrMemory (Evaluates names x) (Err q) → OrMemory (Evaluates names (e.Apply map x at)) (Err q)
+function_refused names map x at q (inl memory) = inl memory
+function_refused names map x at q (inr h) = inr (applied h refl)
+
 pub element_evaluates : (names : Names) (basis : BasisId) (items : List Lexeme) (answer : Answer) → OrMemory (IsElement basis items) answer → OrMemory (Evaluates names (e.Element basis items)) answer
 element_evaluates names basis items answer (inl memory) = inl memory
 element_evaluates names basis items answer (inr (code, spells, is)) = inr (subst (λ (a : Answer). Evaluates names (e.Element basis items) a) (sym is) (element spells))
@@ -54,10 +86,6 @@ wanting P v q (inr is) = absurd (cc)
 pub kept_is : (v w : Expansion) → OrMemory (λ r. r ≡ Ok v) (Ok w) → w ≡ v
 kept_is v w (inl memory) = absurd (cc)
 kept_is v w (inr is) = cc
-
-not_memory : (P : Answer → Type 0) (a : Expansion) → OrMemory P (Ok a) → P (Ok a)
-not_memory P a (inl memory) = absurd (cc)
-not_memory P a (inr h) = h
 
 -- One more step: the operand is evaluated, and then the operation applied.
 abbrev pub TakesStep : Names → Operator → Expansion → Expr → Answer → Type 0
@@ -134,6 +162,8 @@ pub begins : (names : Names) (x : Expr) → IsBuilt x → 0 < length (steps_of x
 begins names x (built_number {n = n} small) some = absurd (omega (arith, some, ap (λ form. length (steps_in form)) (out-number n)))
 begins names x (built_element {basis = basis} {items = items} spells) some = absurd (omega (arith, some, ap (λ form. length (steps_in form)) (out-element basis items)))
 begins names x (built_name {name = name}) some = absurd (omega (arith, some, ap (λ form. length (steps_in form)) (out-name name)))
+begins names x (built_conversion {to = to} {x = y} {at = at} basis built) some = absurd (omega (arith, some, ap (λ form. length (steps_in form)) (out-convert to y at)))
+begins names x (built_function {map = map} {x = y} {at = at} is built) some = absurd (omega (arith, some, ap (λ form. length (steps_in form)) (out-apply map y at)))
 begins names x (built_sum part parts h later) some =
     subst (Begun names x) (sym (ap steps_in (out-sum (part ∷ parts))))
     (begun h later (λ first signed answer one signs rest. sum part parts one (subst (λ (minus : Bool). Signs minus first signed) (minus_is part.minus) signs) rest))

@@ -1,10 +1,14 @@
 pub mod BuiltForms
+pub mod ComponentKinds
 pub mod EvaluationSteps
 pub mod EvaluationsExist
+pub mod GoodAnswers
 pub mod KnownNames
 pub mod Meanings
 pub mod OneEvaluation
 pub mod OneMeaning
 pub mod Operations
+pub mod RowLaws
+pub mod RowValues
 pub mod SpelledElements
 pub mod StepReads

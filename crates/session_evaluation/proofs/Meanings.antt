@@ -1,5 +1,5 @@
 -- The value of an expression reads as the expression means.
-use Rattle.std.proofs.Common.{◌≡◌, ◌≢◌, ℕ, zero, suc, ◌+◌, ◌*◌, ◌≤◌, Bool, true, false, ◌||◌, Ok, Err, List, [], ◌∷◌, ◌++◌, map, length, take, drop, refl, sym, ◌∙◌, ap, subst, arith, unsigned_abs}
+use Rattle.std.proofs.Common.{◌≡◌, ◌≢◌, inl, inr, ℕ, zero, suc, ◌+◌, ◌*◌, ◌≤◌, Bool, true, false, ◌||◌, Ok, Err, List, [], ◌∷◌, ◌++◌, map, length, take, drop, refl, sym, ◌∙◌, ap, subst, arith, unsigned_abs}
 use Rattle.std.specs.Prelude.{if◌then◌else◌, nat_eq, max}
 use Rattle.std.specs.List.{All}
 use Rattle.std.proofs.Math.IntN.{ℤ, pos, negsuc, ◌*ℤ◌}
@@ -11,32 +11,45 @@ use Rattle.hopf_num.specs.Fractions.{Ratio, reciprocal}
 use Rattle.hopf_num.proofs.Reciprocals.{reciprocal_agrees, ratio_nonzero}
 use Rattle.realisations.specs.Points.{Kind, ArePoints}
 use Rattle.realisations.specs.Bases.{kind_of}
-use Rattle.realisations.specs.Readings.{Reading, element, product, tensor, sum_of, multiple, kinds_of, denominator, AgreeAt}
+use Rattle.realisations.specs.Readings.{Reading, Operation, applied as applied_reading, coproduct, counit, mult, element, product, tensor, sum_of, multiple, kinds_of, kinds_after_at, denominator, AgreeAt}
 use Rattle.realisations.proofs.TuplesOfPoints.{points_split}
+use Rattle.realisations.specs.Laws.{IsDoubled}
 use Rattle.realisations.proofs.Agreement.{agree_trans, sum_agrees, multiple_agrees, tensor_agrees, product_agrees}
 use Rattle.basis_names.specs.declared.bases.BasisId.{BasisId}
+use Rattle.session_tokens.specs.declared.lexeme.Linear.{Linear}
+use Rattle.session_tokens.specs.declared.lexeme.Linear.TheVariants.{Coproduct, Antipode, Counit, Mult, Commute}
 use Rattle.hopf_laws.specs.Bases.{least_limit}
 use Rattle.hopf_laws.specs.Values.{Expansion, Expands, reading_of, ratio_of, degree_of_value}
 use Rattle.basis_routes.specs.declared.checks.Check.TheVariants.{SameRank, Scalar, DegreeWithin}
 use Rattle.basis_routes.specs.Checks.{Passes}
 use Rattle.basis_routes.specs.Joins.{joined, join_checks}
 use Rattle.basis_routes.proofs.JoinedKinds.{joined_kinds}
+use Rattle.basis_routes.proofs.ConversionRows.{component_within}
 use Rattle.basis_routes.proofs.Rows.{passes_earlier}
-use Rattle.hopf_ops.specs.Operations.{has_scalar, product_room, common_checks, component_checks}
-use Rattle.hopf_ops.proofs.SumsOfValues.{same_rank}
+use Rattle.basis_routes.proofs.ValueRows.{answers_value}
+use Rattle.basis_routes.specs.declared.place.Place.{Place}
+use Rattle.basis_routes.specs.Conversions.{ConversionRow}
+use Rattle.basis_routes.specs.Places.{position_of}
+use Rattle.basis_routes.specs.Rows.{Row}
+use Rattle.hopf_ops.specs.Operations.{has_scalar, common_checks, NegationRow, ProductBy, RowOf}
 use Rattle.session_grammar.specs.declared.expression.Expr.{Expr}
 use Rattle.session_grammar.specs.declared.expression.Factor.{Factor}
+use Rattle.session_grammar.specs.declared.expression.Place.{Place as SourcePlace}
 use Rattle.session_grammar.specs.declared.expression.Signed.{Signed}
-use Rattle.session_evaluation.specs.declared.operator.Operator.{Operator}
-use Rattle.session_evaluation.specs.declared.operator.Operator.TheVariants.{Plus, Minus, Hash, Times, Over}
+use Rattle.hopf_ops.specs.declared.operator.Operator.{Operator}
+use Rattle.hopf_ops.specs.declared.operator.Operator.TheVariants.{Plus, Minus, Hash, Times, Over}
 use Rattle.session_evaluation.specs.declared.refusal.EvaluationRefusal.{EvaluationRefusal}
 use Rattle.session_evaluation.specs.Names.{Names, AreValues}
-use Rattle.session_evaluation.specs.Evaluation.{Answer, number_value, Operates, answers, Applies, Signs, Steps, steps_of_sum, steps_of_tensor, steps_of_product, Evaluates, number as evaluated_number, element as evaluated_element, known, unknown, sum, tensor_product, product as evaluated_product, Folds, done, refused, step}
-use Rattle.session_evaluation.specs.Meaning.{number, signed, Means, number_means, element_means, name_means, sum_means, tensor_means, product_means, Combine, combined_all, combine, IsMeant}
+use Rattle.session_evaluation.specs.Evaluation.{Answer, number_value, Allows, Operates, Applies, ActsOn, Signs, Steps, steps_of_sum, steps_of_tensor, steps_of_product, Evaluates, number as evaluated_number, element as evaluated_element, known, unknown, converted, applied, sum, tensor_product, product as evaluated_product, Folds, done, refused, step}
+use Rattle.session_evaluation.specs.Meaning.{number, signed, Means, number_means, element_means, name_means, conversion_means, function_means, sum_means, tensor_means, product_means, Combine, combined_all, combine, IsMeant}
+use Rattle.session_evaluation.specs.Functions.{operation_of, place_of, LinearRow}
+use Rattle.hopf_ops.proofs.AppliedReadings.{applied_agrees}
+use Rattle.session_evaluation.proofs.ComponentKinds.{kinds-doubled, kinds-without, kinds-replaced, kinds-multiplied, neighbours_alike}
 use Rattle.session_evaluation.proofs.KnownNames.{known_value}
+use Rattle.session_evaluation.proofs.RowValues.{IsMultiplied, sum_value, component_value, product_value, tensor_value, quotient_value, conversion_value, coproduct_value, counit_value, mult_value}
 use Rattle.session_grammar.specs.declared.expression.Expr.TheVariants as e
 use Rattle.hopf_ops.specs.ReadingOperations.{negative, is_scalar, ratio, quotient}
-use Rattle.session_evaluation.specs.Operators.{combined}
+use Rattle.hopf_ops.specs.ReadingOperations.{combined}
 
 -- readings with the same kinds and positive denominators that agree at all points
 pub record Alike (q r : Reading) : Type 0 where
@@ -144,7 +157,7 @@ common_kinds : (degree : ℕ) (a b : Expansion) → All Passes (common_checks de
 common_kinds degree a b pass =
     let within = DegreeWithin degree (least_limit (joined a.bases b.bases)) in
     let joins = passes_earlier (join_checks a.bases b.bases) (within ∷ []) (All-tail Passes (SameRank (length a.bases) (length b.bases)) (join_checks a.bases b.bases ++ within ∷ []) pass) in
-    let kinds = joined_kinds a.bases b.bases (same_rank degree a b pass) joins in
+    let kinds = joined_kinds a.bases b.bases (pass 0 (SameRank 0 0) (omega arith)) joins in
     (kinds.0, sym kinds.1)
 
 -- a sum of values is like the sum that it means
@@ -171,26 +184,24 @@ hash_alike a b v ra rb first second expands =
     (tensors_alike (reading_of a) ra (reading_of b) rb first second) expands
 
 -- and a product, which is a tensor product where a factor is a scalar
-product_alike : (scalar : Bool) (a b v : Expansion) (ra rb : Reading) → Alike (reading_of a) ra → Alike (reading_of b) rb
-    → All Passes (if scalar then product_room 0 a b else component_checks a b)
-    → Expands (if scalar then a.bases ++ b.bases else joined a.bases b.bases) (if scalar then tensor (reading_of a) (reading_of b) else product (reading_of a) (reading_of b)) v
+product_alike : (scalar : Bool) (a b v : Expansion) (ra rb : Reading) → Alike (reading_of a) ra → Alike (reading_of b) rb → ProductBy scalar a b (Ok v)
     → Alike (reading_of v) (if scalar then tensor ra rb else product ra rb)
-product_alike true a b v ra rb first second pass expands = hash_alike a b v ra rb first second expands
-product_alike false a b v ra rb first second pass expands =
-    let degree = degree_of_value a + degree_of_value b in
-    let kinds = common_kinds degree a b (passes_earlier (common_checks degree a b) (product_room (5 * degree) a b) pass) in
+product_alike true a b v ra rb first second h = hash_alike a b v ra rb first second (product_value true a b v h)
+product_alike false a b v ra rb first second h =
+    let parts = component_value a b v h in
+    let kinds = common_kinds (degree_of_value a + degree_of_value b) a b parts.0 in
     answer_alike (joined a.bases b.bases) (product (reading_of a) (reading_of b)) (product ra rb) v kinds.1
-    (products_alike (reading_of a) ra (reading_of b) rb kinds.0 first second) expands
+    (products_alike (reading_of a) ra (reading_of b) rb kinds.0 first second) parts.1
 
 -- one of two values is a scalar where one of their readings is
 same_scalars : (a b : Expansion) (ra rb : Reading) → Alike (reading_of a) ra → Alike (reading_of b) rb → has_scalar a b ≡ (is_scalar ra || is_scalar rb)
 same_scalars a b ra rb first second = λ i. nat_eq (length (first.kinds i)) 0 || nat_eq (length (second.kinds i)) 0
 
 -- so a product is like the product that it means
-times_alike : (a b v : Expansion) (ra rb : Reading) → Alike (reading_of a) ra → Alike (reading_of b) rb → Operates Times a b (Ok v) → Alike (reading_of v) (combined Times ra rb)
-times_alike a b v ra rb first second (answers lcm pass expands) =
+times_alike : (a b v : Expansion) (ra rb : Reading) → Alike (reading_of a) ra → Alike (reading_of b) rb → RowOf Times a b (Ok v) → Alike (reading_of v) (combined Times ra rb)
+times_alike a b v ra rb first second h =
     subst (λ (scalar : Bool). Alike (reading_of v) (if scalar then tensor ra rb else product ra rb)) (same_scalars a b ra rb first second)
-    (product_alike (has_scalar a b) a b v ra rb first second pass expands)
+    (product_alike (has_scalar a b) a b v ra rb first second h)
 
 -- and a quotient, whose divisor is a scalar other than 0
 over_alike : (a b v : Expansion) (ra rb : Reading) → Alike (reading_of a) ra → Alike (reading_of b) rb → length b.bases ≡ 0 → (ratio_of b).num ≢ pos 0
@@ -204,17 +215,62 @@ over_alike a b v ra rb first second none some expands =
     (multiples_alike (reciprocal by).num (reciprocal by').num (reciprocal by).den (reciprocal by').den (reading_of a) ra
     (nonzero_abs by.num some) (nonzero_abs by'.num some') (reciprocal_agrees by by' second.left second.right same) first) expands
 
--- what an operation answers is like what the operation means
-operation_alike : (o : Operator) (a b v : Expansion) (ra rb : Reading) → Alike (reading_of a) ra → Alike (reading_of b) rb → Operates o a b (Ok v)
-    → Alike (reading_of v) (combined o ra rb)
-operation_alike Plus a b v ra rb first second (answers lcm pass expands) =
-    plus_alike a b v ra rb first second (max (degree_of_value a) (degree_of_value b)) (passes_earlier (common_checks (max (degree_of_value a) (degree_of_value b)) a b) _ pass) expands
-operation_alike Minus a b v ra rb first second (answers lcm pass expands) =
-    minus_alike a b v ra rb first second (max (degree_of_value a) (degree_of_value b)) (passes_earlier (common_checks (max (degree_of_value a) (degree_of_value b)) a b) _ pass) expands
-operation_alike Hash a b v ra rb first second (answers lcm pass expands) = hash_alike a b v ra rb first second expands
-operation_alike Times a b v ra rb first second operates = times_alike a b v ra rb first second operates
-operation_alike Over a b v ra rb first second (answers lcm pass expands) =
-    over_alike a b v ra rb first second (pass 0 (Scalar 0) (omega arith)) (pass 1 (Scalar 0) (omega arith)) expands
+-- what the row of an operation allows is like what the operation means
+row_alike : (o : Operator) (a b v : Expansion) (ra rb : Reading) → Alike (reading_of a) ra → Alike (reading_of b) rb → RowOf o a b (Ok v) → Alike (reading_of v) (combined o ra rb)
+row_alike Plus a b v ra rb first second h =
+    let parts = sum_value false a b v h in plus_alike a b v ra rb first second (max (degree_of_value a) (degree_of_value b)) parts.0 parts.1
+row_alike Minus a b v ra rb first second h =
+    let parts = sum_value true a b v h in minus_alike a b v ra rb first second (max (degree_of_value a) (degree_of_value b)) parts.0 parts.1
+row_alike Hash a b v ra rb first second h = hash_alike a b v ra rb first second (tensor_value a b v h)
+row_alike Times a b v ra rb first second h = times_alike a b v ra rb first second h
+row_alike Over a b v ra rb first second h =
+    let parts = quotient_value a b v h in over_alike a b v ra rb first second (parts.0 0 (Scalar 0) (omega arith)) (parts.0 1 (Scalar 0) (omega arith)) parts.1
+
+-- a value that an operation answers is one that its row allows
+allowed_value : (Allowed : Row) (v : Expansion) → Allows Allowed (Ok v) → Allowed (Ok v)
+allowed_value Allowed v (Ok w, h, is) = let same : v ≡ w = cc in subst (λ (u : Expansion). Allowed (Ok u)) (sym same) h
+allowed_value Allowed v (Err r, h, is) = absurd (cc)
+
+-- so what an operation answers is like what it means
+operation_alike : (o : Operator) (a b v : Expansion) (ra rb : Reading) → Alike (reading_of a) ra → Alike (reading_of b) rb → Operates o a b (Ok v) → Alike (reading_of v) (combined o ra rb)
+operation_alike o a b v ra rb first second h = row_alike o a b v ra rb first second (allowed_value (RowOf o a b) v h)
+
+-- an operation on a component of readings that are alike; a product of two components is one of the same kind
+applied_alike : (operation : Operation) (n : ℕ) (a a' : Reading) → (operation ≡ mult → IsDoubled n (kinds_of a)) → Alike a a' → Alike (applied_reading operation n a) (applied_reading operation n a')
+applied_alike operation n a a' doubled alike = record {
+  kinds = λ i. kinds_after_at n operation (alike.kinds i);
+  left = alike.left;
+  right = alike.right;
+  agree = λ ps points. applied_agrees operation n a a' ps doubled alike.kinds points alike.agree;
+}
+
+-- a conversion reads as its operand
+conversion_alike : (at : Place) (to : BasisId) (a v : Expansion) (r : Reading) → Alike (reading_of a) r → ConversionRow at to a (Ok v) → Alike (reading_of v) r
+conversion_alike at to a v r alike h = elim (conversion_value at to a v h) [
+  | inl same ↦ subst (λ (w : Expansion). Alike (reading_of w) r) (sym same) alike
+  | inr made ↦ answer_alike _ (reading_of a) r v (sym (kinds-replaced (position_of at) a.bases to (component_within at (length a.bases) made.there) (made.checks 0 (Scalar 0) (omega arith)))) alike made.expands
+]
+
+-- the product of two neighbours
+multiplied_alike : (n : ℕ) (a v : Expansion) (r : Reading) → Alike (reading_of a) r → IsMultiplied n a v → Alike (reading_of v) (applied_reading mult n r)
+multiplied_alike n a v r alike made =
+    subst (λ k. Alike (reading_of v) (applied_reading mult k r)) made.place
+    (answer_alike _ (applied_reading mult (length made.before) (reading_of a)) (applied_reading mult (length made.before) r) v
+    (ap (λ bases. kinds_after_at (length made.before) mult (kinds_over bases)) made.bases ∙ kinds-multiplied made.before made.left made.right made.after made.join)
+    (applied_alike mult (length made.before) (reading_of a) r (λ is. subst (λ bases. IsDoubled (length made.before) (kinds_over bases)) (sym made.bases) (neighbours_alike made.before made.left made.right made.after made.join)) alike)
+    made.expands)
+
+-- a function on a component is like what it means
+function_alike : (map : Linear) (at : Place) (a v : Expansion) (r : Reading) → Alike (reading_of a) r → LinearRow map at a (Ok v) → Alike (reading_of v) (applied_reading (operation_of map) (position_of at) r)
+function_alike Coproduct at a v r alike h =
+    answer_alike _ (applied_reading coproduct (position_of at) (reading_of a)) (applied_reading coproduct (position_of at) r) v (kinds-doubled (position_of at) a.bases)
+    (applied_alike coproduct (position_of at) (reading_of a) r (λ is. absurd (cc)) alike) (coproduct_value at a v h)
+function_alike Antipode at a v r alike h = absurd h
+function_alike Counit at a v r alike h =
+    answer_alike _ (applied_reading counit (position_of at) (reading_of a)) (applied_reading counit (position_of at) r) v (kinds-without (position_of at) a.bases)
+    (applied_alike counit (position_of at) (reading_of a) r (λ is. absurd (cc)) alike) (counit_value at a v h)
+function_alike Mult at a v r alike h = multiplied_alike (position_of at) a v r alike (mult_value at a v h)
+function_alike Commute at a v r alike h = absurd h
 
 -- a number as a value is like the number
 number_alike : (n : ℕ) → Alike (reading_of (number_value n)) (number n)
@@ -256,14 +312,29 @@ step_meant names a o x steps (Ok b) (Ok c) (Ok v) meant applies fold = λ ra ali
 signed_alike : (minus : Bool) (a c : Expansion) (ra : Reading) → Alike (reading_of a) ra → Signs minus (Ok a) (Ok c) → Alike (reading_of c) (signed minus ra)
 signed_alike false a c ra alike signs = let same : a ≡ c = cc in subst (λ (w : Expansion). Alike (reading_of w) ra) same alike
 signed_alike true a c ra alike signs =
-    let same : signs.0 ≡ c = cc in
-    subst (λ (w : Expansion). Alike (reading_of w) (negative ra)) same
-    (answer_alike a.bases (negative (reading_of a)) (negative ra) signs.0 refl (negatives_alike (reading_of a) ra alike) signs.1)
+    answer_alike a.bases (negative (reading_of a)) (negative ra) c refl (negatives_alike (reading_of a) ra alike)
+    (answers_value a.bases (negative (reading_of a)) c (allowed_value (NegationRow a) c signs))
 
 -- a refusal with a sign is no value
 signed_refusal : (minus : Bool) (r : EvaluationRefusal) (c : Expansion) → Signs minus (Err r) (Ok c) → ⊥
 signed_refusal false r c signs = absurd (cc)
 signed_refusal true r c signs = absurd (cc)
+
+-- a conversion that comes to a value
+conversion_meant : (names : Names) (to : BasisId) (x : Expr) (at : SourcePlace) (operand answer : Answer) → AnswerMeant names x operand → ActsOn (ConversionRow (place_of at) to) operand answer
+    → AnswerMeant names (e.Convert to x at) answer
+conversion_meant names to x at operand (Err r) meant acts = tt
+conversion_meant names to x at (Err r) (Ok v) meant acts = absurd (cc)
+conversion_meant names to x at (Ok a) (Ok v) meant acts =
+    (meant.0, conversion_means meant.1, conversion_alike (place_of at) to a v meant.0 meant.2 (allowed_value (ConversionRow (place_of at) to a) v acts))
+
+-- a function on a component that does
+function_meant : (names : Names) (map : Linear) (x : Expr) (at : SourcePlace) (operand answer : Answer) → AnswerMeant names x operand → ActsOn (LinearRow map (place_of at)) operand answer
+    → AnswerMeant names (e.Apply map x at) answer
+function_meant names map x at operand (Err r) meant acts = tt
+function_meant names map x at (Err r) (Ok v) meant acts = absurd (cc)
+function_meant names map x at (Ok a) (Ok v) meant acts =
+    (applied_reading (operation_of map) (position_of (place_of at)) meant.0, function_means meant.1, function_alike map (place_of at) a v meant.0 meant.2 (allowed_value (LinearRow map (place_of at) a) v acts))
 
 -- a sum that comes to a value
 sum_meant : (names : Names) (part : Signed) (parts : List Signed) (first with_sign answer : Answer) → AnswerMeant names part.value first → Signs part.minus first with_sign
@@ -299,6 +370,10 @@ mutual
   answer_meant {names = names} values (known {name = name} {v = v} is) =
       (reading_of v, name_means is, alike_refl (reading_of v) (known_value names name v values is).canonical.lowest.positive)
   answer_meant values (unknown is) = tt
+  answer_meant {names = names} values (converted {to = to} {x = y} {at = at} {operand = operand} {answer = answer} evaluates acts) =
+      conversion_meant names to y at operand answer (answer_meant values evaluates) acts
+  answer_meant {names = names} values (applied {map = map} {x = y} {at = at} {operand = operand} {answer = answer} evaluates acts) =
+      function_meant names map y at operand answer (answer_meant values evaluates) acts
   answer_meant {names = names} values (sum part parts {first = first} {signed = with_sign} {answer = answer} evaluates signs folds) =
       sum_meant names part parts first with_sign answer (answer_meant values evaluates) signs (fold_meant values folds)
   answer_meant {names = names} values (tensor_product part parts {first = first} {answer = answer} evaluates folds) =

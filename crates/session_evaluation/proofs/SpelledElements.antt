@@ -1,5 +1,5 @@
 -- Basis elements as they are spelled: each is one element, and its index is within the limit.
-use Rattle.std.proofs.Common.{◌≡◌, ℕ, IsTrue, List, Option, Some, refl, sym, ◌∙◌, subst}
+use Rattle.std.proofs.Common.{◌≡◌, ℕ, IsTrue, List, Some, refl, sym, ◌∙◌}
 use Rattle.basis_names.specs.declared.bases.BasisId.{BasisId}
 use Rattle.basis_names.specs.declared.bases.BasisId.TheVariants.{QsymM, QsymF, NcsfS, NcsfL, NcsfR, FqsymF, FqsymG, WqsymM, FsymS, PbtP}
 use Rattle.built_bases.specs.Table.{is_built}
@@ -20,7 +20,9 @@ index_within : (basis : BasisId) (items : List Lexeme) (code : List ℕ) → IsT
 index_within QsymM items code built spelled =
     let within = spellings.index QsymM items code spelled in
     record { built = refl; index = within.0; degree = within.1 }
-index_within QsymF items code built spelled = absurd (cc)
+index_within QsymF items code built spelled =
+    let within = spellings.index QsymF items code spelled in
+    record { built = refl; index = within.0; degree = within.1 }
 index_within NcsfS items code built spelled = absurd (cc)
 index_within NcsfL items code built spelled = absurd (cc)
 index_within NcsfR items code built spelled = absurd (cc)

@@ -4,8 +4,9 @@ use Rattle.std.proofs.lemmas.List.{drop-map, length-map}
 use Rattle.session_grammar.specs.declared.expression.Expr.{Expr, size-Expr}
 use Rattle.session_grammar.specs.declared.expression.Factor.{Factor}
 use Rattle.session_grammar.specs.declared.expression.Signed.{Signed}
-use Rattle.session_evaluation.specs.declared.operator.Operator.{Operator}
-use Rattle.session_evaluation.specs.Evaluation.{Steps, steps_of}
+use Rattle.hopf_ops.specs.declared.operator.Operator.{Operator}
+use Rattle.session_evaluation.specs.Evaluation.{Steps}
+use Rattle.session_evaluation.specs.EvaluationSteps.{steps_of}
 use Rattle.session_grammar.proofs.expression.Expr.TheLaws.{the_size}
 use Rattle.session_grammar.proofs.expression.Factor.TheLaws.{the_size as factor_size}
 use Rattle.session_grammar.proofs.expression.Signed.TheLaws.{the_size as signed_size}

@@ -3,20 +3,23 @@ use Rattle.std.specs.Prelude.{◌≡◌, ◌≤◌, ℕ, pos, Bool, List, [], �
 use Rattle.realisations.specs.Codes.{Code}
 use Rattle.realisations.specs.Bases.{kind_of}
 use Rattle.realisations.specs.Points.{ArePoints, Points}
-use Rattle.realisations.specs.Readings.{Reading, leaf, element, denominator, AgreeAt}
+use Rattle.realisations.specs.Readings.{Reading, leaf, applied, element, denominator, AgreeAt}
 use Rattle.basis_names.specs.declared.bases.BasisId.{BasisId}
 use Rattle.session_tokens.specs.declared.lexeme.Lexeme.{Lexeme}
+use Rattle.session_tokens.specs.declared.lexeme.Linear.{Linear}
 use Rattle.session_evaluation.specs.Elements.{Spells}
 use Rattle.hopf_laws.specs.Values.{Expansion, reading_of}
 use Rattle.session_grammar.specs.declared.expression.Expr.{Expr}
 use Rattle.session_grammar.specs.declared.expression.Factor.{Factor}
+use Rattle.session_grammar.specs.declared.expression.Place.{Place}
 use Rattle.session_grammar.specs.declared.expression.Signed.{Signed}
-use Rattle.session_evaluation.specs.declared.operator.Operator.{Operator}
+use Rattle.basis_routes.specs.Places.{position_of}
+use Rattle.hopf_ops.specs.declared.operator.Operator.{Operator}
 use Rattle.session_evaluation.specs.Names.{Names, value_of}
 use Rattle.session_evaluation.specs.Evaluation.{Steps, steps_of_sum, steps_of_tensor, steps_of_product}
 use Rattle.session_grammar.specs.declared.expression.Expr.TheVariants as e
-use Rattle.hopf_ops.specs.ReadingOperations.{negative}
-use Rattle.session_evaluation.specs.Operators.{combined}
+use Rattle.hopf_ops.specs.ReadingOperations.{combined, negative}
+use Rattle.session_evaluation.specs.Functions.{operation_of, place_of}
 
 -- a number, which has no component
 abbrev pub number : ℕ → Reading
@@ -32,6 +35,8 @@ mutual
     number_means : {n : ℕ} → Means names (e.Number n) (number n)
     element_means : {basis : BasisId} {items : List Lexeme} {code : Code} → Spells basis items code → Means names (e.Element basis items) (element basis code)
     name_means : {name : List ℕ} {v : Expansion} → value_of names name ≡ Some v → Means names (e.Named name) (reading_of v)
+    conversion_means : {to : BasisId} {x : Expr} {at : Place} {r : Reading} → Means names x r → Means names (e.Convert to x at) r
+    function_means : {map : Linear} {x : Expr} {at : Place} {r : Reading} → Means names x r → Means names (e.Apply map x at) (applied (operation_of map) (position_of (place_of at)) r)
     sum_means : (part : Signed) (parts : List Signed) {first whole : Reading} → Means names part.value first
         → Combine names (signed part.minus first) (steps_of_sum parts) whole → Means names (e.Sum (part ∷ parts)) whole
     tensor_means : (part : Expr) (parts : List Expr) {first whole : Reading} → Means names part first

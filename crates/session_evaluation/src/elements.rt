@@ -1,6 +1,7 @@
 //! The value of a basis element.
 ghost use Rattle.session_evaluation.specs.Elements.{IsSpelled};
-ghost use Rattle.session_evaluation.specs.Evaluation.{OrMemory, IsElement};
+ghost use Rattle.session_evaluation.specs.Evaluation.{OrMemory};
+ghost use Rattle.session_evaluation.specs.EvaluationSteps.{IsElement};
 
 use crate::EvaluationRefusal;
 use basis_names::BasisId;

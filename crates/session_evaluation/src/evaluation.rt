@@ -1,20 +1,26 @@
 //! The value of an expression.
-ghost use Rattle.std.specs.Prelude.{true, ◌≡◌, ◌⊎◌, ◌^◌, ◌<◌, ◌+◌, ◌∷◌, length, drop, if◌then◌else◌, Ok};
+ghost use Rattle.std.specs.Prelude.{true, ◌≡◌, ◌⊎◌, ◌^◌, ◌<◌, ◌+◌, ◌∷◌, length, drop, if◌then◌else◌, IsTrue, Ok};
+ghost use Rattle.built_bases.specs.Table.{is_built};
+ghost use Rattle.built_forms.specs.Forms.{is_built_map};
+ghost use Rattle.basis_routes.specs.Conversions.{ConversionRow};
 ghost use Rattle.session_grammar.specs.declared.expression.Expr.{size-Expr};
 ghost use Rattle.session_evaluation.specs.Built.{IsBuilt};
-ghost use Rattle.session_evaluation.specs.Evaluation.{told, OrMemory, number_value, Operates, Signs, Evaluates, held, answer_of, is_minus, steps_of};
+ghost use Rattle.session_evaluation.specs.Evaluation.{told, OrMemory, number_value, Allows, Operates, Signs, Evaluates};
+ghost use Rattle.session_evaluation.specs.EvaluationSteps.{held, answer_of, is_minus, steps_of};
+ghost use Rattle.session_evaluation.specs.Functions.{place_of, LinearRow};
 
 use crate::elements::value_of_element;
-use crate::{EvaluationRefusal, Names, Operator};
-use basis_routes::{Refusal, Value};
+use crate::{EvaluationRefusal, Names};
+use basis_names::BasisId;
+use basis_routes::{Place as ValuePlace, Refusal, Value, convert};
 use hopf_num::OutOfMemory;
 use hopf_ops::{
-    add, add_to, divide, divided, negate, negated, sub, sub_from, tensor, times, times_by,
-    times_onto,
+    Operator, add, add_to, coproduct, counit, divide, divided, mult, negate, negated, sub,
+    sub_from, tensor, times, times_by, times_onto,
 };
 use linear_combos::{Combo, Key};
-use session_grammar::{Expr, Factor, Signed};
-use session_tokens::Name;
+use session_grammar::{Expr, Factor, Place, Signed};
+use session_tokens::{Linear, Name};
 use std::alloc::Global;
 
 // A value with at most so many terms is added to another one by a search for each of them.
@@ -209,6 +215,37 @@ fn with_sign<'a>(
     }
 }
 
+// The component that an expression names.
+fn component(at: Place) -> ValuePlace
+    ensures { result ≡ place_of at }
+{
+    match at {
+        Place::Only => ValuePlace::Only,
+        Place::At(number) => ValuePlace::At(number),
+    }
+}
+
+// A value with a component over another basis.
+fn converted(alloc: Global, to: BasisId, a: &Value, at: Place) -> Result<Value, EvaluationRefusal>
+    requires { IsTrue (is_built to) }
+    ensures { OrMemory (Allows (ConversionRow (place_of at) to a.now)) result }
+{
+    told_of(convert(alloc, a, component(at), to))
+}
+
+// A function on a component of a value.
+fn mapped(alloc: Global, map: Linear, a: &Value, at: Place) -> Result<Value, EvaluationRefusal>
+    requires { IsTrue (is_built_map map) }
+    ensures { OrMemory (Allows (LinearRow map (place_of at) a.now)) result }
+{
+    match map {
+        Linear::Coproduct => told_of(coproduct(alloc, a, component(at))),
+        Linear::Counit => told_of(counit(alloc, a, component(at))),
+        Linear::Mult => told_of(mult(alloc, a, component(at))),
+        Linear::Antipode | Linear::Commute => unreachable!(),
+    }
+}
+
 // How many operands a sum, a tensor product or a product has: each is a step of its evaluation.
 fn count_of_steps(x: &Expr) -> usize
     ensures { result ≡ length (steps_of x.now) }
@@ -278,6 +315,40 @@ fn operand_of<'a>(
     Ok(Operand::Made(value))
 }
 
+// The value of a conversion.
+#[cycle(evaluation)]
+fn value_of_conversion(
+    alloc: Global,
+    names: &Names,
+    to: BasisId,
+    x: &Expr,
+    at: Place,
+) -> Result<Value, EvaluationRefusal>
+    requires basis { IsTrue (is_built to) }
+    requires built { IsBuilt x.now }
+    ensures { OrMemory (Evaluates names.now (Expr.Convert to x.now at)) result }
+{
+    let operand = operand_of(alloc, names, x)?;
+    converted(alloc, to, operand.value(), at)
+}
+
+// The value of a function on a component.
+#[cycle(evaluation)]
+fn value_of_function(
+    alloc: Global,
+    names: &Names,
+    map: Linear,
+    x: &Expr,
+    at: Place,
+) -> Result<Value, EvaluationRefusal>
+    requires map { IsTrue (is_built_map map) }
+    requires built { IsBuilt x.now }
+    ensures { OrMemory (Evaluates names.now (Expr.Apply map x.now at)) result }
+{
+    let operand = operand_of(alloc, names, x)?;
+    mapped(alloc, map, operand.value(), at)
+}
+
 // The value of a sum, a tensor product or a product.
 #[cycle(evaluation)]
 fn value_of_operation(alloc: Global, names: &Names, x: &Expr) -> Result<Value, EvaluationRefusal>
@@ -308,7 +379,11 @@ pub fn value_of(alloc: Global, names: &Names, x: &Expr) -> Result<Value, Evaluat
         Expr::Number(number) => value_of_number(alloc, *number),
         Expr::Element(basis, items) => value_of_element(alloc, *basis, items.as_slice()),
         Expr::Named(name) => value_of_name(alloc, names, name),
+        Expr::Convert { to, value, at } => {
+            value_of_conversion(alloc, names, *to, value.get(), *at)
+        }
+        Expr::Apply { map, value, at } => value_of_function(alloc, names, *map, value.get(), *at),
         Expr::Sum(_) | Expr::Tensor(_) | Expr::Product(_) => value_of_operation(alloc, names, x),
-        _ => unreachable!(),
+        Expr::Pair(_, _) | Expr::Along { .. } => unreachable!(),
     }
 }

@@ -5,11 +5,10 @@ mod elements;
 mod evaluation;
 mod laws;
 mod names;
-mod operator;
 mod refusal;
 
 pub use evaluation::value_of;
+pub use hopf_ops::Operator;
 pub use laws::meaning_law;
 pub use names::Names;
-pub use operator::Operator;
 pub use refusal::EvaluationRefusal;

@@ -1,12 +1,16 @@
-use Rattle.std.proofs.Common.{[], ◌∷◌, ◌++◌, length, max, rules}
+use Rattle.std.proofs.Common.{◌≡◌, List, sym, subst, ◌∙◌, [], ◌∷◌, ◌++◌, length, max, rules}
 use Rattle.std.specs.Prelude.{All}
+use Rattle.std.proofs.lemmas.List.Elements.{All-append}
 use Rattle.std.proofs.lemmas.Result.{err_from_is_err_and}
+use Rattle.basis_names.specs.declared.bases.BasisId.{BasisId}
 use Rattle.hopf_laws.specs.Bases.{least_limit}
 use Rattle.hopf_laws.specs.Values.{degree_of_value}
 use Rattle.basis_routes.specs.declared.checks.Check.TheVariants.{SameRank, DegreeWithin}
 use Rattle.basis_routes.specs.Checks.{Passes, IsRefusalOf}
 use Rattle.basis_routes.specs.Joins.{joined, join_checks}
 use Rattle.basis_routes.proofs.Rows.{refused_front, refused_back}
+use Rattle.hopf_ops.specs.Answers.{AreTargets}
+use Rattle.hopf_ops.proofs.BuiltJoins.{targets_of}
 use Rattle.hopf_ops.proofs.common.common_bases_of_sum.Goals as goal
 
 pub returns-in_err-bases-clause-checks : goal.returns-in_err-bases-clause-checks
@@ -33,3 +37,29 @@ returns-in_err-test_degree_of_sum-clause-checks c =
     let joins : All Passes (join_checks a b) = search rules in
     let past : IsRefusalOf degree c.in_err-test_degree_of_sum.field-0.0 = search rules in
     rw (p.1, p.2) (refused_back rank (join_checks a b ++ degree) c.in_err-test_degree_of_sum.field-0.0 ranks (refused_back (join_checks a b) degree c.in_err-test_degree_of_sum.field-0.0 joins past))
+
+pub returns-clause-checks : goal.returns-clause-checks
+returns-clause-checks c =
+    let a = c.args.a.now.bases in
+    let b = c.args.b.now.bases in
+    let rank = SameRank (length a) (length b) ∷ [] in
+    let degree = DegreeWithin (max (degree_of_value c.args.a.now) (degree_of_value c.args.b.now)) (least_limit (joined a b)) ∷ [] in
+    let ranks : All Passes rank = search rules in
+    let joins : All Passes (join_checks a b) = search rules in
+    let within : All Passes degree = search rules in
+    All-append Passes rank (join_checks a b ++ degree) ranks (All-append Passes (join_checks a b) degree joins within)
+
+pub returns-clause-targets : goal.returns-clause-targets
+returns-clause-targets c =
+    let a = c.args.a.now in
+    let b = c.args.b.now in
+    let rank = SameRank (length a.bases) (length b.bases) ∷ [] in
+    let joins = join_checks a.bases b.bases in
+    let degree = DegreeWithin (max (degree_of_value c.args.a.now) (degree_of_value c.args.b.now)) (least_limit (joined a.bases b.bases)) ∷ [] in
+    let ranks : All Passes rank = search rules in
+    let have_joins : All Passes joins = search rules in
+    let within : All Passes degree = search rules in
+    let is : c.in_ok-bases.bases ≡ joined a.bases b.bases = c.in_ok-bases.ensures.value ∙ (λ i. joined (c.bases.ensures.bases i) (c.bases-2.ensures.bases i)) in
+    subst (λ (bases : List BasisId). AreTargets bases (max (degree_of_value c.args.a.now) (degree_of_value c.args.b.now)) a b) (sym is)
+    (targets_of (max (degree_of_value c.args.a.now) (degree_of_value c.args.b.now)) a b c.rank.ensures.value c.rank-2.ensures.value
+    (All-append Passes rank (joins ++ degree) ranks (All-append Passes joins degree have_joins within)))

@@ -11,9 +11,11 @@ use Rattle.linear_combos.specs.Combos.{IsMultiple}
 use Rattle.linear_combos.specs.Faults.{TestsRoom}
 use Rattle.hopf_laws.specs.Values.{ratio_of, reading_of}
 use Rattle.basis_routes.specs.declared.checks.Check.TheVariants.{Scalar, Nonzero}
-use Rattle.basis_routes.specs.Checks.{Passes, room_checks}
+use Rattle.basis_routes.specs.Checks.{Passes, Tests, room_checks}
 use Rattle.basis_routes.proofs.Rows.{tests_back}
 use Rattle.hopf_ops.specs.Answers.{IsOver, IsAnswerOver}
+use Rattle.hopf_ops.specs.Operations.{quotient_checks}
+use Rattle.hopf_ops.proofs.RowsInSteps.{tests_row}
 use Rattle.hopf_ops.proofs.Rooms.{answer_expands, answer_tests_room}
 use Rattle.hopf_ops.proofs.MultiplesOfValues.{multiple_over, multiple_reads, abs-with_sign_of}
 use Rattle.hopf_ops.proofs.multiples.divide.Goals as goal
@@ -26,8 +28,9 @@ over_bases-requires c =
     rw (c.copy.ensures, c.bases.ensures.bases)
     (IfOk-weaker c.scale.result (IsMultiple a.combination c.recip.result) (IsOver a.bases) (λ s is. multiple_over a c.recip.result s c.bases.ensures.value is) multiple)
 
-pub returns-clause-checks : goal.returns-clause-checks
-returns-clause-checks c =
+-- the divisor is a scalar other than 0
+pub returns : goal.returns
+returns c =
     let a = c.args.a.now in
     let b = c.args.b.now in
     let ratio = ratio_of b in
@@ -41,16 +44,12 @@ returns-clause-checks c =
     subst (λ (n : ℕ). TestsRoom (product_rule a.combination.den (unsigned_abs ratio.num) (norm_of a.combination.terms) n 0) c.scale.result) (abs-with_sign_of ratio.num b.combination.den)
     (subst (λ (r : Ratio). TestsRoom (product_rule a.combination.den r.den (norm_of a.combination.terms) (unsigned_abs r.num) 0) c.scale.result) by
     (subst (λ (x : Combination). TestsRoom (product_rule x.den c.recip.result.den (norm_of x.terms) (unsigned_abs c.recip.result.num) 0) c.scale.result) c.combo.ensures.combination c.scale.ensures.room)) in
+    let tests : Tests (quotient_checks a b) c.over_bases.result =
     tests_back (Scalar (length b.bases) ∷ Nonzero ratio.num ∷ []) (room_checks needs) c.over_bases.result pass
-    (answer_tests_room c.copy.result needs c.scale.result c.over_bases.result room c.over_bases.ensures.answer)
-
-pub returns-clause-value : goal.returns-clause-value
-returns-clause-value c =
-    let a = c.args.a.now in
-    let b = c.args.b.now in
-    let by : c.recip.result ≡ reciprocal (ratio_of b) = c.recip.ensures ∙ ap (λ r. reciprocal r) c.in-Some.ensures.1 in
+    (answer_tests_room c.copy.result needs c.scale.result c.over_bases.result room c.over_bases.ensures.answer) in
     let multiple : IfOk c.scale.result (IsMultiple a.combination (reciprocal (ratio_of b))) =
     subst (λ (r : Ratio). IfOk c.scale.result (IsMultiple a.combination r)) by (rw (← c.combo.ensures.combination) c.scale.ensures.multiple) in
-    answer_expands (IsMultiple a.combination (reciprocal (ratio_of b))) a.bases (quotient (reading_of a) (reading_of b)) c.scale.result c.over_bases.result
+    tests_row (quotient_checks a b) a.bases (quotient (reading_of a) (reading_of b)) c.over_bases.result tests
+    (answer_expands (IsMultiple a.combination (reciprocal (ratio_of b))) a.bases (quotient (reading_of a) (reading_of b)) c.scale.result c.over_bases.result
     (subst (λ bases. IsAnswerOver bases c.scale.result c.over_bases.result) (c.copy.ensures ∙ c.bases.ensures.bases) c.over_bases.ensures.answer) multiple c.over_bases.ensures.value
-    (λ s is ps points. multiple_reads a (reciprocal (ratio_of b)) s is ps)
+    (λ s is ps points. multiple_reads a (reciprocal (ratio_of b)) s is ps))

@@ -1,9 +1,7 @@
 use Rattle.std.proofs.Common.{◌≡◌, negsuc, subst, sym, ◌∙◌}
 use Rattle.hopf_num.specs.Fractions.{Ratio}
-use Rattle.realisations.specs.Combinations.{Combination}
-use Rattle.realisations.specs.Readings.{AgreeAt, leaf}
 use Rattle.linear_combos.specs.Combos.{IsMultiple}
-use Rattle.hopf_laws.specs.Values.{Expansion, IsValue, Expands, reading_of}
+use Rattle.hopf_laws.specs.Values.{Expands, reading_of}
 use Rattle.hopf_ops.specs.ReadingOperations.{negative}
 use Rattle.hopf_ops.proofs.MultiplesOfValues.{multiple_value, multiple_reads}
 use Rattle.hopf_ops.proofs.multiples.negated.Goals as goal

@@ -1,8 +1,16 @@
-use Rattle.std.proofs.Common.{◌≡◌, ◌*◌, ◌<◌, ◌^◌, length, sym, ◌∙◌, ap, subst, unsigned_abs}
+use Rattle.std.proofs.Common.{◌++◌, Ok, Err, inr, rules, ◌*◌, ◌<◌, ◌^◌, sym, ◌∙◌, subst, unsigned_abs}
+use Rattle.std.specs.Prelude.{All}
+use Rattle.std.proofs.lemmas.Result.{err_from_is_err_and}
 use Rattle.hopf_num.specs.Fractions.{Ratio}
 use Rattle.realisations.specs.Combinations.{Combination, norm_of}
 use Rattle.linear_combos.specs.Combos.{IsMultiple}
-use Rattle.hopf_laws.specs.Values.{IsValue, ratio_of}
+use Rattle.realisations.specs.Readings.{tensor}
+use Rattle.hopf_laws.specs.Values.{IsValue, Expands, ratio_of, reading_of}
+use Rattle.basis_routes.specs.Checks.{Passes, IsRefusalOf}
+use Rattle.basis_routes.specs.Rows.{Answers}
+use Rattle.hopf_ops.specs.Operations.{product_room}
+use Rattle.hopf_ops.proofs.ProductsOfOperands.{scalar_row}
+use Rattle.hopf_ops.proofs.RowsInSteps.{checks_refuse, tests_row}
 use Rattle.hopf_ops.proofs.MultiplesOfValues.{multiple_value}
 use Rattle.hopf_ops.proofs.ScalarMultiples.{dens_right, room_right, product_right}
 use Rattle.hopf_ops.proofs.products.times_by.Goals as goal
@@ -25,10 +33,27 @@ over-requires c =
     let multiple : IsMultiple c.args.a.combination c.in-Some.factor c.scaled_with_room-combo.result = rw (← c.into_parts-bases.ensures.combination) c.scaled_with_room-combo.ensures.multiple in
     rw c.into_parts-bases.ensures.bases (multiple_value c.args.a c.in-Some.factor c.scaled_with_room-combo.result c.into_parts-bases.ensures.value multiple c.scaled_with_room-combo.ensures.canonical)
 
-pub returns-clause-value : goal.returns-clause-value
-returns-clause-value c =
+-- the checks of room refuse
+pub returns-in_err-test_room : goal.returns-in_err-test_room
+returns-in_err-test_room c =
+    let p = err_from_is_err_and c.from_residual.result c.from_residual.ensures.1 in
+    let a = c.args.a in
+    let b = c.args.b.now in
+    let refused : IsRefusalOf (product_room 0 a b) c.in_err-test_room.field-0.0 = search rules in
+    rw (p.1, p.2) (scalar_row a b (Err c.in_err-test_room.field-0.0) (inr c.in-Some.ensures.0)
+    (checks_refuse (product_room 0 a b) (Answers (a.bases ++ b.bases) (tensor (reading_of a) (reading_of b))) c.in_err-test_room.field-0.0 refused))
+
+-- they pass, and the product is the multiple
+pub returns : goal.returns
+returns c =
+    let a = c.args.a in
+    let b = c.args.b.now in
+    let pass : All Passes (product_room 0 a b) = search rules in
     let other : IsValue c.args.b.now = c.test_room.ensures.right in
     let multiple : IsMultiple c.args.a.combination (ratio_of c.args.b.now) c.scaled_with_room-combo.result =
     subst (λ (r : Ratio). IsMultiple c.args.a.combination r c.scaled_with_room-combo.result) c.in-Some.ensures.1 (rw (← c.into_parts-bases.ensures.combination) c.scaled_with_room-combo.ensures.multiple) in
+    let value : Expands (a.bases ++ b.bases) (tensor (reading_of a) (reading_of b)) c.over.result =
     product_right c.args.a c.args.b.now c.into_parts-bases.ensures.value other c.in-Some.ensures.0 c.scaled_with_room-combo.result multiple c.scaled_with_room-combo.ensures.canonical c.over.result
-    (c.over.ensures ∙ (λ i. record { bases = c.into_parts-bases.ensures.bases i; combination = c.scaled_with_room-combo.result }))
+    (c.over.ensures ∙ (λ i. record { bases = c.into_parts-bases.ensures.bases i; combination = c.scaled_with_room-combo.result })) in
+    scalar_row a b (Ok c.over.result) (inr c.in-Some.ensures.0)
+    (tests_row (product_room 0 a b) (a.bases ++ b.bases) (tensor (reading_of a) (reading_of b)) (Ok c.over.result) pass value)

@@ -1,58 +1,31 @@
-use Rattle.std.proofs.Common.{ℕ, subst, max, rules}
-use Rattle.std.specs.Prelude.{All, IfOk}
-use Rattle.std.proofs.lemmas.Result.{IfOk-weaker, err_from_is_err_and}
-use Rattle.hopf_num.specs.Divisors.{IsLcm}
-use Rattle.hopf_num.specs.Room.{sum_rule}
-use Rattle.linear_combos.specs.Faults.{TestsRoom}
-use Rattle.realisations.specs.Combinations.{Combination, norm_of}
-use Rattle.hopf_laws.specs.Values.{degree_of_value, reading_of}
-use Rattle.basis_routes.specs.Checks.{Passes, IsRefusalOf, room_checks}
+use Rattle.std.proofs.Common.{List, max, subst, rules}
+use Rattle.std.specs.Prelude.{All}
+use Rattle.std.proofs.lemmas.Result.{err_from_is_err_and}
+use Rattle.basis_names.specs.declared.bases.BasisId.{BasisId}
+use Rattle.hopf_laws.specs.Values.{degree_of_value}
+use Rattle.basis_routes.specs.Checks.{Passes, IsRefusalOf}
 use Rattle.basis_routes.specs.Joins.{joined}
-use Rattle.basis_routes.proofs.Rows.{refused_front, tests_back}
-use Rattle.hopf_ops.specs.Answers.{IsOver, IsAnswerOver, IsSumOrDifference}
-use Rattle.hopf_ops.specs.Operations.{common_checks}
-use Rattle.hopf_ops.proofs.Rooms.{answer_tests_room, answer_expands}
-use Rattle.hopf_ops.proofs.SumsOfValues.{same_rank, sum_over, sum_reads}
+use Rattle.basis_routes.specs.Rows.{OrMemory}
+use Rattle.hopf_ops.specs.Operations.{common_checks, SumOver}
+use Rattle.hopf_ops.proofs.RowsInSteps.{checks_pass, checks_refuse}
 use Rattle.hopf_ops.proofs.sums.sum_or_difference.Goals as goal
-use Rattle.hopf_ops.specs.ReadingOperations.{sum_or_difference}
 
-pub returns-in_err-bases-clause-checks : goal.returns-in_err-bases-clause-checks
-returns-in_err-bases-clause-checks c = λ m is.
+-- the common checks refuse
+pub returns-in_err-targets : goal.returns-in_err-targets
+returns-in_err-targets c =
     let p = err_from_is_err_and c.from_residual.result c.from_residual.ensures.1 in
     let a = c.args.a.now in
     let b = c.args.b.now in
-    let refused : IsRefusalOf (common_checks (max (degree_of_value a) (degree_of_value b)) a b) c.in_err-bases.field-0.0 = search rules in
-    rw (p.1, p.2) (refused_front (common_checks (max (degree_of_value a) (degree_of_value b)) a b) (room_checks (sum_rule m a.combination.den b.combination.den (norm_of a.combination.terms) (norm_of b.combination.terms))) c.in_err-bases.field-0.0 refused)
+    let common = common_checks (max (degree_of_value a) (degree_of_value b)) a b in
+    let refused : IsRefusalOf common c.in_err-targets.field-0.0 = search rules in
+    rw (p.1, p.2) (checks_refuse common (SumOver c.args.minus (joined a.bases b.bases) a b) c.in_err-targets.field-0.0 refused)
 
-pub over_bases-requires : goal.over_bases-requires
-over_bases-requires c =
-    let a = c.args.a.now in
-    let b = c.args.b.now in
-    let pass : All Passes (common_checks (max (degree_of_value a) (degree_of_value b)) a b) = search rules in
-    let sum : IfOk c.plus_or_minus.result (IsSumOrDifference c.args.minus a.combination b.combination) = rw (← c.combo.ensures.combination, ← c.combo-2.ensures.combination) c.plus_or_minus.ensures.sum in
-    rw c.in_ok-bases.ensures.value (IfOk-weaker c.plus_or_minus.result (IsSumOrDifference c.args.minus a.combination b.combination) (IsOver (joined a.bases b.bases))
-    (λ s is. sum_over c.args.minus a b s c.combo.ensures.value c.combo-2.ensures.value (same_rank _ a b pass) is) sum)
-
-pub returns-clause-checks : goal.returns-clause-checks
-returns-clause-checks c = λ m is.
+-- they pass, and the rest is the row
+pub returns : goal.returns
+returns c =
     let a = c.args.a.now in
     let b = c.args.b.now in
     let common = common_checks (max (degree_of_value a) (degree_of_value b)) a b in
     let pass : All Passes common = search rules in
-    let needs = sum_rule m a.combination.den b.combination.den (norm_of a.combination.terms) (norm_of b.combination.terms) in
-    let left = c.combo.result.now in
-    let room =
-    subst (λ (x : Combination). (n : ℕ) → IsLcm x.den b.combination.den n → TestsRoom (sum_rule n x.den b.combination.den (norm_of x.terms) (norm_of b.combination.terms)) c.plus_or_minus.result) c.combo.ensures.combination
-    (subst (λ (y : Combination). (n : ℕ) → IsLcm left.den y.den n → TestsRoom (sum_rule n left.den y.den (norm_of left.terms) (norm_of y.terms)) c.plus_or_minus.result) c.combo-2.ensures.combination c.plus_or_minus.ensures.room) in
-    tests_back common (room_checks needs) c.over_bases.result pass
-    (answer_tests_room c.in_ok-bases.bases needs c.plus_or_minus.result c.over_bases.result (room m is) c.over_bases.ensures.answer)
-
-pub returns-clause-value : goal.returns-clause-value
-returns-clause-value c =
-    let a = c.args.a.now in
-    let b = c.args.b.now in
-    let pass : All Passes (common_checks (max (degree_of_value a) (degree_of_value b)) a b) = search rules in
-    let sum : IfOk c.plus_or_minus.result (IsSumOrDifference c.args.minus a.combination b.combination) = rw (← c.combo.ensures.combination, ← c.combo-2.ensures.combination) c.plus_or_minus.ensures.sum in
-    answer_expands (IsSumOrDifference c.args.minus a.combination b.combination) (joined a.bases b.bases) (sum_or_difference c.args.minus (reading_of a) (reading_of b)) c.plus_or_minus.result c.over_bases.result
-    (subst (λ bases. IsAnswerOver bases c.plus_or_minus.result c.over_bases.result) c.in_ok-bases.ensures.value c.over_bases.ensures.answer) sum c.over_bases.ensures.value
-    (λ s is ps points. sum_reads c.args.minus a b s c.combo.ensures.value c.combo-2.ensures.value (same_rank _ a b pass) is ps)
+    checks_pass common (SumOver c.args.minus (joined a.bases b.bases) a b) c.sum_over.result pass
+    (subst (λ (bases : List BasisId). OrMemory (SumOver c.args.minus bases a b) c.sum_over.result) c.in_ok-targets.ensures.value c.sum_over.ensures)

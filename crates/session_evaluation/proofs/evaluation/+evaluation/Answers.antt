@@ -2,8 +2,13 @@ use Rattle.std.proofs.Common.{◌≡◌, ◌+◌, List, [], Ok, Err, drop, subst
 use Rattle.std.proofs.lemmas.List.{nil_from_length, length-drop}
 use Rattle.std.proofs.lemmas.Result.{err_from_is_err_and}
 use Rattle.session_tokens.specs.declared.lexeme.Lexeme.{Lexeme}
-use Rattle.session_evaluation.specs.Evaluation.{IsElement, OrMemory, Evaluates, held, answer_of, steps_of}
-use Rattle.session_evaluation.proofs.EvaluationSteps.{renamed, number_evaluates, element_evaluates, kept, takes_step, refused_step, Remains, remains_built, remains_step, remains_refused, remains_done, Begun, begins, begun_built, begun_refused, sign_refused, begun_remains}
+use Rattle.hopf_laws.specs.Values.{Expansion}
+use Rattle.basis_routes.specs.Conversions.{ConversionRow}
+use Rattle.session_grammar.specs.declared.expression.Expr.{Expr}
+use Rattle.session_evaluation.specs.Evaluation.{OrMemory, Allows, Evaluates}
+use Rattle.session_evaluation.specs.Functions.{place_of, LinearRow}
+use Rattle.session_evaluation.specs.EvaluationSteps.{IsElement, held, answer_of, steps_of}
+use Rattle.session_evaluation.proofs.EvaluationSteps.{renamed, number_evaluates, element_evaluates, conversion_evaluates, conversion_refused, function_evaluates, function_refused, kept, takes_step, refused_step, Remains, remains_built, remains_step, remains_refused, remains_done, Begun, begins, begun_built, begun_refused, sign_refused, begun_remains}
 use Rattle.session_grammar.specs.declared.expression.Expr.TheVariants as e
 use Rattle.session_evaluation.proofs.evaluation.+evaluation.Goals as goal
 
@@ -71,3 +76,33 @@ pub value_of_operation-returns : goal.value_of_operation-returns
 value_of_operation-returns t c =
     let none : drop c.loop-i.i (steps_of c.args.x.now) ≡ [] = nil_from_length (drop c.loop-i.i (steps_of c.args.x.now)) (omega (arith, length-drop c.loop-i.i (steps_of c.args.x.now), c.count_of_steps-i-end.ensures, c.loop-i-test.false)) in
     kept (Evaluates c.args.names.now c.args.x.now) (held c.loop-i.value) c.owned.result (remains_done c.args.names.now c.args.x.now (held c.loop-i.value) (subst (Remains c.args.names.now c.args.x.now (held c.loop-i.value)) none c.loop-i.invariant)) c.owned.ensures
+
+pub value_of_conversion-returns-in_err-operand : goal.value_of_conversion-returns-in_err-operand
+value_of_conversion-returns-in_err-operand t c =
+    let p = err_from_is_err_and c.from_residual.result c.from_residual.ensures.1 in
+    rw (p.1, p.2) (conversion_refused c.args.names.now c.args.to c.args.x.now c.args.at c.in_err-operand.field-0.0 c.in_err-operand.ensures)
+
+pub value_of_conversion-returns : goal.value_of_conversion-returns
+value_of_conversion-returns t c =
+    conversion_evaluates c.args.names.now c.args.to c.args.x.now c.args.at (held c.in_ok-operand.operand) c.converted.result c.in_ok-operand.ensures
+    (subst (λ (a : Expansion). OrMemory (Allows (ConversionRow (place_of c.args.at) c.args.to a)) c.converted.result) c.value.ensures c.converted.ensures)
+
+pub value_of_function-returns-in_err-operand : goal.value_of_function-returns-in_err-operand
+value_of_function-returns-in_err-operand t c =
+    let p = err_from_is_err_and c.from_residual.result c.from_residual.ensures.1 in
+    rw (p.1, p.2) (function_refused c.args.names.now c.args.map c.args.x.now c.args.at c.in_err-operand.field-0.0 c.in_err-operand.ensures)
+
+pub value_of_function-returns : goal.value_of_function-returns
+value_of_function-returns t c =
+    function_evaluates c.args.names.now c.args.map c.args.x.now c.args.at (held c.in_ok-operand.operand) c.mapped.result c.in_ok-operand.ensures
+    (subst (λ (a : Expansion). OrMemory (Allows (LinearRow c.args.map (place_of c.args.at) a)) c.mapped.result) c.value.ensures c.mapped.ensures)
+
+pub value_of-returns-in-Convert : goal.value_of-returns-in-Convert
+value_of-returns-in-Convert t c =
+    renamed c.args.names.now c.args.x.now (e.Convert c.in-Convert.to c.in-Convert.value c.in-Convert.at) c.value_of_conversion.result c.in-Convert.is
+    (subst (λ (y : Expr). OrMemory (Evaluates c.args.names.now (e.Convert c.in-Convert.to y c.in-Convert.at)) c.value_of_conversion.result) c.get.ensures c.value_of_conversion.ensures)
+
+pub value_of-returns-in-Apply : goal.value_of-returns-in-Apply
+value_of-returns-in-Apply t c =
+    renamed c.args.names.now c.args.x.now (e.Apply c.in-Apply.map c.in-Apply.value c.in-Apply.at) c.value_of_function.result c.in-Apply.is
+    (subst (λ (y : Expr). OrMemory (Evaluates c.args.names.now (e.Apply c.in-Apply.map y c.in-Apply.at)) c.value_of_function.result) c.get-in-Apply.ensures c.value_of_function.ensures)

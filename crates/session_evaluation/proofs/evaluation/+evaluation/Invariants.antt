@@ -1,5 +1,5 @@
 use Rattle.std.proofs.Common.{drop}
-use Rattle.session_evaluation.specs.Evaluation.{held, steps_of}
+use Rattle.session_evaluation.specs.EvaluationSteps.{held, steps_of}
 use Rattle.session_evaluation.proofs.EvaluationSteps.{Remains}
 use Rattle.session_evaluation.proofs.evaluation.+evaluation.Given as goal
 

@@ -1,7 +1,8 @@
 use Rattle.std.proofs.Common.{subst}
 use Rattle.std.proofs.lemmas.Result.{err_from_is_err_and}
 use Rattle.hopf_laws.specs.Values.{Expansion}
-use Rattle.session_evaluation.specs.Evaluation.{held, OrMemory, Operates}
+use Rattle.session_evaluation.specs.Evaluation.{OrMemory, Operates}
+use Rattle.session_evaluation.specs.EvaluationSteps.{held}
 use Rattle.session_evaluation.proofs.EvaluationSteps.{wanting, kept_is}
 use Rattle.session_evaluation.proofs.evaluation.operate_on.Goals as goal
 

@@ -2,8 +2,8 @@ use Rattle.std.proofs.Common.{if◌then◌else◌, refl, ◌∙◌, ap}
 use Rattle.session_grammar.specs.declared.expression.Expr.{Expr}
 use Rattle.session_grammar.specs.declared.expression.Factor.{Factor}
 use Rattle.session_grammar.specs.declared.expression.Signed.{Signed}
-use Rattle.session_evaluation.specs.declared.operator.Operator.TheVariants.{Plus, Minus, Hash, Times, Over}
-use Rattle.session_evaluation.specs.Evaluation.{steps_in, steps_of}
+use Rattle.hopf_ops.specs.declared.operator.Operator.TheVariants.{Plus, Minus, Hash, Times, Over}
+use Rattle.session_evaluation.specs.EvaluationSteps.{steps_in, steps_of}
 use Rattle.session_grammar.proofs.expression.Expr.TheLaws.{the_size}
 use Rattle.session_grammar.proofs.expression.Factor.TheLaws.{the_size as factor_size}
 use Rattle.session_grammar.proofs.expression.Signed.TheLaws.{the_size as signed_size}

@@ -1,0 +1,27 @@
+use Rattle.std.proofs.Common.{◌≡◌, [], ◌∷◌, if◌then◌else◌, Ok, Err, rules, sym, subst}
+use Rattle.hopf_num.specs.declared.room.Need.{Need}
+use Rattle.basis_routes.specs.declared.checks.Check.{Check}
+use Rattle.basis_routes.specs.declared.checks.Check.TheVariants.{Routed, Room}
+use Rattle.basis_routes.specs.declared.refusal.Refusal.TheVariants.{TooLarge}
+use Rattle.basis_routes.specs.Checks.{Tests, refusal_of}
+use Rattle.basis_routes.proofs.TestedChecks.{tests_one, tests_room}
+use Rattle.basis_routes.proofs.checks.Check.test.Goals as goal
+
+pub returns-in-Routed-clause-checks : goal.returns-in-Routed-clause-checks
+returns-in-Routed-clause-checks c =
+    let from = c.in-Routed.from in
+    let to = c.in-Routed.to in
+    let check : Check = Routed from to in
+    let is : c.args.self ≡ check = search rules in
+    let made : c.refuse_unless-in-Routed.result ≡ if c.is_routed.result then (Ok tt) else (Err (refusal_of check)) = search rules in
+    subst (λ (x : Check). Tests (x ∷ []) c.refuse_unless-in-Routed.result) (sym is)
+    (tests_one check c.is_routed.result c.refuse_unless-in-Routed.result c.is_routed.ensures made)
+
+pub returns-in-Room-clause-checks : goal.returns-in-Room-clause-checks
+returns-in-Room-clause-checks c =
+    let need : Need = c.in-Room.need in
+    let check : Check = Room need in
+    let is : c.args.self ≡ check = search rules in
+    let made : c.refuse_unless-in-Room.result ≡ if c.is_ok.result then (Ok tt) else (Err (TooLarge need)) = search rules in
+    subst (λ (x : Check). Tests (x ∷ []) c.refuse_unless-in-Room.result) (sym is)
+    (tests_room need c.test.result c.is_ok.result c.refuse_unless-in-Room.result c.test.ensures c.is_ok.ensures.value made)

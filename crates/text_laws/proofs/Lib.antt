@@ -1,0 +1,10 @@
+pub mod PartialSums
+pub mod ReadBack
+pub mod SpelledTerms
+pub mod SumRows
+pub mod SumsEvaluate
+pub mod TermValues
+pub mod TermsEvaluate
+pub mod TextGrammar
+pub mod TextSound
+pub mod TextTokens
