@@ -1,0 +1,3 @@
+pub mod InclusionsExist
+pub mod SumsOver
+pub mod TreeDescents
