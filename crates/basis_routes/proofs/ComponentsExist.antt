@@ -33,8 +33,9 @@ pub coproduct_exists : (n : ℕ) (v : Expansion) → n < length v.bases → leng
 coproduct_exists n v lt short is room =
     let (b, at) = basis_there n v.bases lt in
     let has = has_coproduct n v.bases b lt at in
-    let (c, lift) = lifts_exist (coproduct_facts b 1) (has_coproducts b (has.built v.combination is)) n v.combination is.canonical (has.can v.combination is short room 1) in
-    (over (doubled n v.bases) c, coproduct_lifted n v b c v.combination lt at is short refl (1, lift))
+    let (growth, coproducts) = has_coproducts b (has.built v.combination is) in
+    let (c, lift) = lifts_exist (coproduct_facts b growth) coproducts n v.combination is.canonical (has.can v.combination is short room growth) in
+    (over (doubled n v.bases) c, coproduct_lifted n v b c v.combination lt at is short refl (growth, lift))
 
 -- its kinds
 pub kinds-doubled : (n : ℕ) (bases : List BasisId) → n < length bases → map kind_of (doubled n bases) ≡ kinds_after_at n coproduct (map kind_of bases)

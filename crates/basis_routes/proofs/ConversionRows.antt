@@ -1,14 +1,15 @@
 -- The row of a conversion that is asked for: it allows exactly one answer, whose value reads as the operand.
 use Rattle.std.proofs.Common.{◌≡◌, ℕ, ◌<◌, ◌≤◌, IsTrue, List, [], ◌∷◌, ◌++◌, length, map, get_or, Ok, inl, inr, sym, ◌∙◌, ap, subst, arith}
-use Rattle.std.specs.Prelude.{All, min}
-use Rattle.std.proofs.lemmas.List.Elements.{All-head, All-tail, All-nil, All-cons}
+use Rattle.std.specs.Prelude.{All}
+use Rattle.std.proofs.lemmas.List.Elements.{All-head, All-nil, All-cons, All-append}
 use Rattle.basis_names.specs.declared.bases.BasisId.{BasisId}
 use Rattle.built_bases.specs.Table.{is_built}
-use Rattle.realisations.specs.Bases.{kind_of}
+use Rattle.basis_names.specs.Bases.{algebra_of}
+use Rattle.realisations.specs.Bases.{kind_of, lies_in}
 use Rattle.hopf_laws.specs.Bases.{least_limit}
 use Rattle.hopf_laws.specs.Values.{Expansion, IsValue, Expands, reading_of, degree_of_value}
 use Rattle.basis_routes.specs.declared.checks.Check.{Check}
-use Rattle.basis_routes.specs.declared.checks.Check.TheVariants.{SameRank, HasComponent, Routed, DegreeWithin}
+use Rattle.basis_routes.specs.declared.checks.Check.TheVariants.{SameRank, HasComponent, Routed, Contained, DegreeWithin}
 use Rattle.basis_routes.specs.declared.place.Place.{Place}
 use Rattle.basis_routes.specs.declared.place.Place.TheVariants.{Only, At}
 use Rattle.basis_routes.specs.Checks.{Passes, IsCheck}
@@ -17,6 +18,8 @@ use Rattle.basis_routes.specs.Laws.{ConversionLaw}
 use Rattle.basis_routes.specs.Lists.{replaced}
 use Rattle.basis_routes.specs.Places.{position_of, component_checks}
 use Rattle.basis_routes.specs.Rows.{Answer, Answers}
+use Rattle.basis_routes.proofs.ChangedValues.{can_convert}
+use Rattle.basis_routes.proofs.ContainedBases.{lies_kind}
 use Rattle.basis_routes.proofs.ConversionsExist.{linear_checks_are, brought_some, NotAbove}
 use Rattle.basis_routes.proofs.ConvertedRows.{brought_expands}
 use Rattle.basis_routes.proofs.OnceRows.{checked_once, brought_once}
@@ -39,31 +42,10 @@ conversion_checks_are : (n : ℕ) (new : BasisId) (v : Expansion) → IsValue v 
 conversion_checks_are n new v is =
     let old = get_or v.bases n new in
     let limit = limit_between old new (replaced n (new ∷ []) v.bases) in
-    All-cons IsCheck (Routed old new) (DegreeWithin (degree_of_value v) limit ∷ linear_checks v) tt
-    (All-cons IsCheck (DegreeWithin (degree_of_value v) limit) (linear_checks v) tt (linear_checks_are v is))
-
--- what they say
-conversion_routed : (n : ℕ) (new : BasisId) (v : Expansion) → All Passes (conversion_checks n new v) → kind_of (get_or v.bases n new) ≡ kind_of new
-conversion_routed n new v pass =
-    let old = get_or v.bases n new in
-    All-head Passes (Routed old new) (DegreeWithin (degree_of_value v) (limit_between old new (replaced n (new ∷ []) v.bases)) ∷ linear_checks v) pass
-
-conversion_later : (n : ℕ) (new : BasisId) (v : Expansion) → All Passes (conversion_checks n new v)
-    → All Passes (DegreeWithin (degree_of_value v) (limit_between (get_or v.bases n new) new (replaced n (new ∷ []) v.bases)) ∷ linear_checks v)
-conversion_later n new v pass =
-    let old = get_or v.bases n new in
-    All-tail Passes (Routed old new) (DegreeWithin (degree_of_value v) (limit_between old new (replaced n (new ∷ []) v.bases)) ∷ linear_checks v) pass
-
-conversion_degree : (n : ℕ) (new : BasisId) (v : Expansion) → All Passes (conversion_checks n new v) → degree_of_value v ≤ limit_between (get_or v.bases n new) new (replaced n (new ∷ []) v.bases)
-conversion_degree n new v pass =
-    All-head Passes (DegreeWithin (degree_of_value v) (limit_between (get_or v.bases n new) new (replaced n (new ∷ []) v.bases))) (linear_checks v) (conversion_later n new v pass)
-
-conversion_room : (n : ℕ) (new : BasisId) (v : Expansion) → All Passes (conversion_checks n new v) → All Passes (linear_checks v)
-conversion_room n new v pass =
-    All-tail Passes (DegreeWithin (degree_of_value v) (limit_between (get_or v.bases n new) new (replaced n (new ∷ []) v.bases))) (linear_checks v) (conversion_later n new v pass)
-
-below_least : (d m n : ℕ) → d ≤ min m n → d ≤ m
-below_least d m n h = omega (arith, h)
+    let last : List Check = Contained old new ∷ [] in
+    All-cons IsCheck (Routed old new) (DegreeWithin (degree_of_value v) limit ∷ linear_checks v ++ last) tt
+    (All-cons IsCheck (DegreeWithin (degree_of_value v) limit) (linear_checks v ++ last) tt
+    (All-append IsCheck (linear_checks v) last (linear_checks_are v is) (All-cons IsCheck (Contained old new) [] tt (All-nil IsCheck))))
 
 module _ (at : Place) (new : BasisId) (v : Expansion) (is : IsValue v) where
   abbrev checks : List Check
@@ -89,11 +71,12 @@ module _ (at : Place) (new : BasisId) (v : Expansion) (is : IsValue v) where
       (λ pass.
       let h = at_place pass in
       brought_some h.before h.after h.basis new v is h.is checks (position_of at) h.long (conversion_checks_are (position_of at) new v is)
-      (λ passes. (
+      (λ passes.
+      let can = can_convert (position_of at) new v passes in (
         built,
-        sym (ap kind_of (basis_at h)) ∙ conversion_routed (position_of at) new v passes,
-        subst (λ bs. degree_of_value v ≤ least_limit bs) (changed_at h) (below_least (degree_of_value v) (least_limit (replaced (position_of at) (new ∷ []) v.bases)) _ (conversion_degree (position_of at) new v passes)),
-        conversion_room (position_of at) new v passes,
+        subst (λ (b : BasisId). IsTrue (lies_in (algebra_of b) (algebra_of new))) (basis_at h) can.inside,
+        subst (λ bs. degree_of_value v ≤ least_limit bs) (changed_at h) can.within,
+        can.room,
       ))) in
       (row.answer, row.allowed)
 
@@ -107,7 +90,8 @@ module _ (at : Place) (new : BasisId) (v : Expansion) (is : IsValue v) where
   kind_kept : (w : Expansion) → BroughtTo checks (position_of at) new v (Ok w) → kind_of (get_or v.bases (position_of at) new) ≡ kind_of new
   kind_kept w (inl (same, here)) = ap kind_of same
   kind_kept w (inr (other, row)) =
-      conversion_routed (position_of at) new v (checked_value checks (Answers (replaced (position_of at) (new ∷ []) v.bases) (reading_of v)) w row).0
+      let pass = (checked_value checks (Answers (replaced (position_of at) (new ∷ []) v.bases) (reading_of v)) w row).0 in
+      lies_kind (get_or v.bases (position_of at) new) new (can_convert (position_of at) new v pass).inside
 
   pub conversion_kinds : (w : Expansion) → ConversionRow at new v (Ok w) → map kind_of (replaced (position_of at) (new ∷ []) v.bases) ≡ map kind_of v.bases
   conversion_kinds w row =

@@ -1,31 +1,33 @@
 -- Conversions step by step, as code goes through them.
-use Rattle.std.proofs.Common.{◌≡◌, ◌≢◌, ℕ, zero, suc, ◌+◌, ◌<◌, ◌≤◌, IsTrue, List, [], ◌∷◌, ◌++◌, length, map, drop, get_or, Result, Ok, Err, inl, inr, refl, sym, ◌∙◌, ap, subst, arith}
+use Rattle.std.proofs.Common.{◌≡◌, ◌≢◌, ℕ, zero, suc, ◌+◌, ◌<◌, ◌≤◌, IsTrue, List, [], ◌∷◌, ◌++◌, length, drop, get_or, Result, Ok, Err, inl, inr, refl, sym, ◌∙◌, ap, subst, arith}
 use Rattle.std.specs.Prelude.{All}
 use Rattle.std.proofs.lemmas.Bool.{cases_eq}
-use Rattle.std.proofs.lemmas.List.{length-map, get_or_default}
+use Rattle.std.proofs.lemmas.List.{get_or_default}
 use Rattle.std.proofs.lemmas.List.Elements.{All-append}
 use Rattle.basis_names.specs.Bases.{algebra_of, limit_of}
 use Rattle.basis_names.specs.declared.bases.BasisId.{BasisId}
 use Rattle.built_bases.specs.Table.{is_built}
 use Rattle.hopf_laws.specs.Bases.{AreBuilt, least_limit}
 use Rattle.hopf_laws.specs.Values.{Expansion, IsValue, reading_of, degree_of_value}
-use Rattle.realisations.specs.Bases.{kind_of}
+use Rattle.realisations.specs.Bases.{lies_in}
 use Rattle.basis_routes.specs.declared.checks.Check.{Check}
-use Rattle.basis_routes.specs.declared.checks.Check.TheVariants.{DegreeWithin, Routed}
+use Rattle.basis_routes.specs.declared.checks.Check.TheVariants.{Contained, DegreeWithin, Routed}
 use Rattle.basis_routes.specs.declared.refusal.Refusal.{Refusal}
 use Rattle.basis_routes.specs.Changed.{AreSameTo, way_checks}
 use Rattle.basis_routes.specs.Checks.{IsRefusalOf, Passes, Tests}
 use Rattle.basis_routes.specs.Conversions.{BroughtTo, ConversionRow, ConvertsAt, ConvertsFrom, Converts, conversion_checks, limit_between, linear_checks}
 use Rattle.basis_routes.specs.declared.place.Place.{Place}
+use Rattle.basis_routes.specs.Joins.{LieIn}
 use Rattle.basis_routes.specs.Lists.{replaced}
 use Rattle.basis_routes.specs.Places.{position_of, component_checks}
 use Rattle.basis_routes.specs.Rows.{Answer, Answers, Row, Checked, OrMemory}
 use Rattle.basis_routes.proofs.BasesAround.{at_component, built-here, within-back, within_each}
+use Rattle.basis_routes.proofs.ContainedBases.{lies_replaced}
 use Rattle.basis_routes.proofs.ConversionsExist.{converts_at_some}
 use Rattle.basis_routes.proofs.ConvertedRows.{brought_expands}
 use Rattle.basis_routes.proofs.OnceRows.{brought_once}
-use Rattle.basis_routes.proofs.ReplacedBases.{has_at, get_or-at, kinds-replaced}
-use Rattle.basis_routes.proofs.Rows.{refused_back, tests_back}
+use Rattle.basis_routes.proofs.ReplacedBases.{has_at, get_or-at, replaced-at}
+use Rattle.basis_routes.proofs.Rows.{refused_back, refused_front, tests_back}
 use Rattle.basis_routes.proofs.ValueRows.{told}
 
 -- the checks of a way, tested one after the other
@@ -36,26 +38,18 @@ way_tests n to v from degree limit result is degree_is limit_is pass tests =
     (tests_back (Routed from to ∷ []) (DegreeWithin (degree_of_value v) (limit_between from to (replaced n (to ∷ []) v.bases)) ∷ []) result pass
     (subst (λ m. Tests (DegreeWithin (degree_of_value v) m ∷ []) result) limit_is (subst (λ d. Tests (DegreeWithin d limit ∷ []) result) degree_is tests)))
 
--- later checks, once the first ones pass
-pub checked_behind : (checks later : List Check) (Rest : Row) (answer : Answer) → All Passes checks → OrMemory (Checked later Rest) answer → OrMemory (Checked (checks ++ later) Rest) answer
-checked_behind checks later Rest answer pass (inl memory) = inl memory
-checked_behind checks later Rest answer pass (inr (inl (pass', rest))) = inr (inl (All-append Passes checks later pass pass', rest))
-checked_behind checks later Rest answer pass (inr (inr (r, failing, is))) = by_refusal (refused_back checks later r pass (inr failing))
-  where
-    by_refusal : IsRefusalOf (checks ++ later) r → OrMemory (Checked (checks ++ later) Rest) answer
-    by_refusal (inl memory) = let err : Refusal → Answer = λ x. Err x in inl (is ∙ ap err memory)
-    by_refusal (inr first) = inr (inr (r, first, is))
+-- those of a conversion that is asked for: the linear rule fails once there is a way
+pub room_refused : (n : ℕ) (to : BasisId) (v : Expansion) (r : Refusal) → All Passes (way_checks n to v) → IsRefusalOf (linear_checks v) r → IsRefusalOf (conversion_checks n to v) r
+room_refused n to v r way failing = refused_front (way_checks n to v ++ linear_checks v) (Contained (get_or v.bases n to) to ∷ []) r (refused_back (way_checks n to v) (linear_checks v) r way failing)
+
+-- or it holds, and the last check is made
+pub conversion_tests : (n : ℕ) (to : BasisId) (v : Expansion) (from : BasisId) (result : Result (Unit {0}) Refusal) → from ≡ get_or v.bases n to
+    → All Passes (way_checks n to v) → All Passes (linear_checks v) → Tests (Contained from to ∷ []) result → Tests (conversion_checks n to v) result
+conversion_tests n to v from result is way room tests =
+    tests_back (way_checks n to v ++ linear_checks v) (Contained (get_or v.bases n to) to ∷ []) result (All-append Passes (way_checks n to v) (linear_checks v) way room)
+    (subst (λ (old : BasisId). Tests (Contained old to ∷ []) result) is tests)
 
 -- what a list of bases has at a place
-pub kind_at : (n : ℕ) (targets bases : List BasisId) (to : BasisId) → map kind_of targets ≡ map kind_of bases → n < length targets → to ≡ get_or targets n to → kind_of (get_or bases n to) ≡ kind_of to
-kind_at n [] bases to kinds lt is = absurd (omega (arith, lt))
-kind_at n (t ∷ targets) [] to kinds lt is = absurd (cc)
-kind_at zero (t ∷ targets) (b ∷ bases) to kinds lt is = let same : kind_of t ≡ kind_of b = cc in sym same ∙ ap kind_of (sym is)
-kind_at (suc n) (t ∷ targets) (b ∷ bases) to kinds lt is = let others : map kind_of targets ≡ map kind_of bases = cc in kind_at n targets bases to others (omega (arith, lt)) is
-
-pub same_length : (targets bases : List BasisId) → map kind_of targets ≡ map kind_of bases → length targets ≡ length bases
-same_length targets bases kinds = sym (length-map targets kind_of) ∙ ap (λ ks. length ks) kinds ∙ length-map bases kind_of
-
 pub built_at : (n : ℕ) (targets : List BasisId) (to : BasisId) → AreBuilt targets → n < length targets → to ≡ get_or targets n to → IsTrue (is_built to)
 built_at n targets to built lt is = at_component (λ m bs b. AreBuilt bs → IsTrue (is_built b)) (λ before after b h. built-here before after b h) n targets to lt is built
 
@@ -79,21 +73,24 @@ drop-behind zero (b ∷ bases) le = absurd (omega (arith, le))
 drop-behind (suc n) (b ∷ bases) le = drop-behind n bases (omega (arith, le))
 
 -- a component that is brought to a basis
-module _ (n : ℕ) (new : BasisId) (v w : Expansion) (is : IsValue v) (here : n < length v.bases) (kind : kind_of (get_or v.bases n new) ≡ kind_of new) (step : ConvertsAt n new v (Ok w)) where
-  -- has the same kinds
-  pub brought_kinds : map kind_of w.bases ≡ map kind_of v.bases
-  brought_kinds =
+module _ (n : ℕ) (new : BasisId) (v w : Expansion) (is : IsValue v) (here : n < length v.bases) (step : ConvertsAt n new v (Ok w)) where
+  -- takes the place of the old one
+  brought_bases : w.bases ≡ replaced n (new ∷ []) v.bases
+  brought_bases =
       let h = has_at n v.bases here in
-      let old : get_or v.bases n new ≡ h.basis = ap (λ bs. get_or bs n new) h.is ∙ get_or-at n h.before h.after h.basis new h.long in
       let expands = brought_expands (linear_checks v) n new v w h.before h.after h.basis is h.is h.long step in
-      ap (λ bs. map kind_of bs) expands.over ∙ kinds-replaced h.before h.after h.basis new (sym (ap kind_of old) ∙ kind) ∙ ap (λ bs. map kind_of bs) (sym h.is)
+      expands.over ∙ sym (ap (λ bs. replaced n (new ∷ []) bs) h.is ∙ replaced-at n h.before (new ∷ []) h.after h.basis h.long)
 
-  -- and no greater degree
-  pub brought_degree : IsTrue (is_built new) → degree_of_value v ≤ limit_of (algebra_of new) → degree_of_value w ≤ degree_of_value v
-  brought_degree built small =
+  -- so the bases lie in the targets as before
+  pub brought_inside : (targets : List BasisId) → LieIn v.bases targets → n < length targets → new ≡ get_or targets n new → LieIn w.bases targets
+  brought_inside targets lie within at = subst (λ bs. LieIn bs targets) (sym brought_bases) (lies_replaced n v.bases targets new lie within at)
+
+  -- and the degree is no greater
+  pub brought_degree : IsTrue (lies_in (algebra_of (get_or v.bases n new)) (algebra_of new)) → IsTrue (is_built new) → degree_of_value v ≤ limit_of (algebra_of new) → degree_of_value w ≤ degree_of_value v
+  brought_degree inside built small =
       let h = has_at n v.bases here in
       let old : get_or v.bases n new ≡ h.basis = ap (λ bs. get_or bs n new) h.is ∙ get_or-at n h.before h.after h.basis new h.long in
-      let some = converts_at_some n new v h.before h.after h.basis is h.is h.long built (sym (ap kind_of old) ∙ kind) small in
+      let some = converts_at_some n new v h.before h.after h.basis is h.is h.long built (subst (λ (b : BasisId). IsTrue (lies_in (algebra_of b) (algebra_of new))) old inside) small in
       some.holds w (brought_once (linear_checks v) n new v is some.answer (told w) some.allowed step)
 
 -- the conversions that are left, once one more component was converted
@@ -181,4 +178,12 @@ pub conversion_asked : (at : Place) (to : BasisId) (v : Expansion) (n rank : ℕ
 conversion_asked at to v n rank answer place long pass other (inl memory) = inl memory
 conversion_asked at to v n rank answer place long pass other (inr row) =
     let brought : BroughtTo (conversion_checks n to v) n to v answer = inr (other, row) in
+    inr (inl (subst (λ m. All Passes (component_checks at m)) long pass, subst (λ m. BroughtTo (conversion_checks m to v) m to v answer) (sym place) brought))
+
+-- and of one that has the basis already
+pub conversion_of_same : (at : Place) (to : BasisId) (v : Expansion) (n rank : ℕ) (answer : Answer) → position_of at ≡ n → rank ≡ length v.bases → All Passes (component_checks at rank) → get_or v.bases n to ≡ to
+    → OrMemory (λ a. a ≡ Ok v) answer → OrMemory (ConversionRow at to v) answer
+conversion_of_same at to v n rank answer place long pass same (inl memory) = inl memory
+conversion_of_same at to v n rank answer place long pass same (inr is) =
+    let brought : BroughtTo (conversion_checks n to v) n to v answer = inl (same, is) in
     inr (inl (subst (λ m. All Passes (component_checks at m)) long pass, subst (λ m. BroughtTo (conversion_checks m to v) m to v answer) (sym place) brought))

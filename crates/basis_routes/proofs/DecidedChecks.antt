@@ -1,5 +1,5 @@
 -- Each row of checks is decided: all pass, or there is a first that fails.
-use Rattle.std.proofs.Common.{◌≡◌, ◌≢◌, ◌⊎◌, ℕ, zero, suc, ◌*◌, ◌/◌, ◌^◌, ◌<◌, ◌≤◌, List, [], ◌∷◌, inl, inr, refl, arith}
+use Rattle.std.proofs.Common.{◌≡◌, ◌≢◌, ◌⊎◌, ℕ, zero, suc, ◌*◌, ◌/◌, ◌^◌, ◌<◌, ◌≤◌, Bool, true, false, IsTrue, List, [], ◌∷◌, inl, inr, refl, arith}
 use Rattle.std.proofs.Math.IntN.{ℤ, pos, negsuc}
 use Rattle.std.proofs.lemmas.Bool.{cases_lt, cases_eq}
 use Rattle.std.proofs.lemmas.Int.{ints}
@@ -9,12 +9,13 @@ use Rattle.hopf_num.specs.declared.room.Need.{Need}
 use Rattle.hopf_num.specs.declared.room.Need.TheVariants.{Denominator, CommonDenominator, Linear, Product, Sum}
 use Rattle.hopf_num.specs.Room.{HasRoom, IsNeed}
 use Rattle.hopf_num.proofs.CommonDivisors.{gcd-exists, IsLcm-quotient, common_room}
-use Rattle.realisations.specs.Bases.{kind_of}
+use Rattle.basis_names.specs.Bases.{algebra_of}
+use Rattle.realisations.specs.Bases.{kind_of, lies_in}
 use Rattle.realisations.specs.Points.{Kind, exponents, word}
 use Rattle.basis_routes.specs.JoinTable.{join_of}
 use Rattle.basis_routes.specs.declared.refusal.Refusal.{Refusal}
 use Rattle.basis_routes.specs.declared.checks.Check.{Check}
-use Rattle.basis_routes.specs.declared.checks.Check.TheVariants.{SameRank, RankWithin, HasComponent, Scalar, Nonzero, Joined, Routed, DegreeWithin, Room}
+use Rattle.basis_routes.specs.declared.checks.Check.TheVariants.{SameRank, RankWithin, HasComponent, Scalar, Nonzero, Joined, Routed, Contained, DegreeWithin, Room}
 use Rattle.basis_routes.specs.Checks.{Passes, IsCheck, IsFirstFailing, refusal_of}
 
 -- a number is below another or not
@@ -61,6 +62,11 @@ some_decided : {A : Type 0} (o : Option A) → IsSome o ⊎ (IsSome o → ⊥)
 some_decided (Some x) = inl refl
 some_decided None = inr (λ is. absurd (cc))
 
+-- a test holds or not
+test_decided : (test : Bool) → IsTrue test ⊎ (IsTrue test → ⊥)
+test_decided true = inl refl
+test_decided false = inr (λ is. absurd (cc))
+
 -- two claims hold or not
 both_decided : {P Q : Type 0} → P ⊎ (P → ⊥) → Q ⊎ (Q → ⊥) → (P × Q) ⊎ (P × Q → ⊥)
 both_decided (inl p) (inl q) = inl (p, q)
@@ -83,6 +89,7 @@ check_decided (Scalar rank) is = cases_eq rank 0
 check_decided (Nonzero num) is = nonzero_decided num
 check_decided (Joined left right) is = some_decided (join_of left right)
 check_decided (Routed from to) is = same_kind_decided (kind_of from) (kind_of to)
+check_decided (Contained from to) is = test_decided (lies_in (algebra_of from) (algebra_of to))
 check_decided (DegreeWithin degree limit) is = within_decided degree limit
 check_decided (Room need) is = room_decided need is
 

@@ -28,13 +28,19 @@ of_each test all WqsymM = all 7 WqsymM (omega arith)
 of_each test all FsymS = all 8 FsymS (omega arith)
 of_each test all PbtP = all 9 PbtP (omega arith)
 
-abbrev same_kind : Kind → Kind → Bool
+-- what is tested of all pairs of bases holds of each
+pub of_pairs : (test : BasisId → BasisId → Bool) → list_all (λ left. list_all (test left) bases) bases ≡ true → (left right : BasisId) → test left right ≡ true
+of_pairs test all left right =
+    let of_left : list_all (test left) bases ≡ true = of_each (λ basis. list_all (test basis) bases) (AllPass-from_list_all (λ basis. list_all (test basis) bases) bases all) left in
+    of_each (test left) (AllPass-from_list_all (test left) bases of_left) right
+
+abbrev pub same_kind : Kind → Kind → Bool
 same_kind exponents exponents = true
 same_kind exponents word = false
 same_kind word exponents = false
 same_kind word word = true
 
-are_same_kind : (a b : Kind) → same_kind a b ≡ true → a ≡ b
+pub are_same_kind : (a b : Kind) → same_kind a b ≡ true → a ≡ b
 are_same_kind exponents exponents is = refl
 are_same_kind exponents word is = absurd (cc)
 are_same_kind word exponents is = absurd (cc)

@@ -1,6 +1,7 @@
 pub mod BasesAround
 pub mod ChangedValues
 pub mod ComponentsExist
+pub mod ContainedBases
 pub mod ConversionRows
 pub mod ConversionSteps
 pub mod ConversionsExist

@@ -4,7 +4,7 @@ use Rattle.basis_names.specs.Bases.{algebra_of, limit_of}
 use Rattle.basis_names.specs.declared.bases.BasisId.{BasisId}
 use Rattle.built_bases.specs.Table.{is_built}
 use Rattle.hopf_laws.specs.Values.{Expansion, degree_of_value}
-use Rattle.realisations.specs.Bases.{kind_of}
+use Rattle.realisations.specs.Bases.{lies_in}
 use Rattle.basis_routes.specs.declared.checks.Check.{Check}
 use Rattle.basis_routes.specs.declared.checks.Check.TheVariants.{DegreeWithin, Routed}
 use Rattle.basis_routes.specs.Conversions.{limit_between}
@@ -14,7 +14,7 @@ use Rattle.basis_routes.specs.Lists.{replaced}
 pub record CanChange (n : ℕ) (new : BasisId) (v : Expansion) : Type 0 where
   pub here : n < length v.bases
   pub built : IsTrue (is_built new)
-  pub kind : kind_of (get_or v.bases n new) ≡ kind_of new
+  pub inside : IsTrue (lies_in (algebra_of (get_or v.bases n new)) (algebra_of new))
   pub different : get_or v.bases n new ≢ new
   pub degree : degree_of_value v ≤ limit_of (algebra_of new)
 

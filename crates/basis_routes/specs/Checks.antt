@@ -1,14 +1,14 @@
 -- Rows of checks: an operation is refused by the first of its checks that fails.
-use Rattle.std.specs.Prelude.{◌≡◌, ◌≢◌, ◌≤◌, ◌⊎◌, pos, List, map, All, IsSome, Result, MatchResult}
+use Rattle.std.specs.Prelude.{◌≡◌, ◌≢◌, ◌≤◌, ◌⊎◌, pos, IsTrue, List, map, All, IsSome, Result, MatchResult}
 use Rattle.hopf_num.specs.declared.room.Need.{Need}
 use Rattle.hopf_num.specs.FirstFailing.{IsFirstThatFails}
 use Rattle.hopf_num.specs.Room.{HasRoom, IsNeed}
 use Rattle.basis_names.specs.Bases.{algebra_of}
-use Rattle.realisations.specs.Bases.{kind_of}
+use Rattle.realisations.specs.Bases.{kind_of, lies_in}
 use Rattle.basis_routes.specs.declared.refusal.Refusal.{Refusal}
-use Rattle.basis_routes.specs.declared.refusal.Refusal.TheVariants.{Rank, Component, NotScalar, ZeroDivisor, Mixed, NoRoute, Degree, TooLarge, Memory}
+use Rattle.basis_routes.specs.declared.refusal.Refusal.TheVariants.{Rank, Component, NotScalar, ZeroDivisor, Mixed, NoRoute, Degree, TooLarge, NotBuilt, Memory}
 use Rattle.basis_routes.specs.declared.checks.Check.{Check}
-use Rattle.basis_routes.specs.declared.checks.Check.TheVariants.{SameRank, RankWithin, HasComponent, Scalar, Nonzero, Joined, Routed, DegreeWithin, Room}
+use Rattle.basis_routes.specs.declared.checks.Check.TheVariants.{SameRank, RankWithin, HasComponent, Scalar, Nonzero, Joined, Routed, Contained, DegreeWithin, Room}
 use Rattle.basis_routes.specs.JoinTable.{join_of}
 
 -- the check passes; there is a way between two bases where they are read at points of one kind
@@ -20,6 +20,7 @@ Passes (Scalar rank) = rank ≡ 0
 Passes (Nonzero num) = num ≢ pos 0
 Passes (Joined left right) = IsSome (join_of left right)
 Passes (Routed from to) = kind_of from ≡ kind_of to
+Passes (Contained from to) = IsTrue (lies_in (algebra_of from) (algebra_of to))
 Passes (DegreeWithin degree limit) = degree ≤ limit
 Passes (Room need) = HasRoom need
 
@@ -32,6 +33,7 @@ refusal_of (Scalar rank) = NotScalar
 refusal_of (Nonzero num) = ZeroDivisor
 refusal_of (Joined left right) = Mixed (algebra_of left) (algebra_of right)
 refusal_of (Routed from to) = NoRoute (algebra_of from) (algebra_of to)
+refusal_of (Contained from to) = NotBuilt
 refusal_of (DegreeWithin degree limit) = Degree degree limit
 refusal_of (Room need) = TooLarge need
 

@@ -1,5 +1,5 @@
 -- Conversions of the components of a value.
-use Rattle.std.specs.Prelude.{◌≡◌, ◌≢◌, ◌⊎◌, ℕ, ◌+◌, ◌*◌, min, List, [], ◌∷◌, length, get_or, unwrap_or, Ok}
+use Rattle.std.specs.Prelude.{◌≡◌, ◌≢◌, ◌⊎◌, ℕ, ◌+◌, ◌*◌, min, List, [], ◌∷◌, ◌++◌, length, get_or, unwrap_or, Ok}
 use Rattle.hopf_num.specs.declared.room.Need.TheVariants.{Linear}
 use Rattle.realisations.specs.Combinations.{norm_of}
 use Rattle.basis_names.specs.Bases.{algebra_of, limit_of}
@@ -7,7 +7,7 @@ use Rattle.basis_names.specs.declared.bases.BasisId.{BasisId}
 use Rattle.hopf_laws.specs.Bases.{least_limit}
 use Rattle.hopf_laws.specs.Values.{Expansion, reading_of, degree_of_value}
 use Rattle.basis_routes.specs.declared.checks.Check.{Check}
-use Rattle.basis_routes.specs.declared.checks.Check.TheVariants.{DegreeWithin, Room, Routed}
+use Rattle.basis_routes.specs.declared.checks.Check.TheVariants.{Contained, DegreeWithin, Room, Routed}
 use Rattle.basis_routes.specs.declared.place.Place.{Place}
 use Rattle.basis_routes.specs.JoinTable.{join_of}
 use Rattle.basis_routes.specs.Lists.{replaced}
@@ -46,11 +46,11 @@ BothConvert targets a b Rest = Then (Converts targets a) (λ x. Then (Converts t
 abbrev pub limit_between : BasisId → BasisId → List BasisId → ℕ
 limit_between old new bases = min (least_limit bases) (limit_of (algebra_of (unwrap_or (join_of old new) old)))
 
--- the checks of a conversion that is asked for: there is a way from the old basis to the new one, the total degree is within the limit, the linear rule
+-- the checks of a conversion that is asked for: there is a way from the old basis to the new one, the total degree is within the limit, the linear rule, and the old basis lies in the algebra of the new one
 abbrev pub conversion_checks : ℕ → BasisId → Expansion → List Check
 conversion_checks n new v =
     let old = get_or v.bases n new in
-    Routed old new ∷ DegreeWithin (degree_of_value v) (limit_between old new (replaced n (new ∷ []) v.bases)) ∷ linear_checks v
+    Routed old new ∷ DegreeWithin (degree_of_value v) (limit_between old new (replaced n (new ∷ []) v.bases)) ∷ linear_checks v ++ Contained old new ∷ []
 
 -- a conversion that is asked for: the component is there; where it has the basis already, nothing more is tested
 abbrev pub ConversionRow : Place → BasisId → Expansion → Row

@@ -1,6 +1,8 @@
 -- The bases of sums and products.
-use Rattle.std.specs.Prelude.{List, [], ◌∷◌, unwrap_or}
+use Rattle.std.specs.Prelude.{IsTrue, List, [], ◌∷◌, unwrap_or}
 use Rattle.basis_names.specs.declared.bases.BasisId.{BasisId}
+use Rattle.basis_names.specs.Bases.{algebra_of}
+use Rattle.realisations.specs.Bases.{lies_in}
 use Rattle.basis_routes.specs.declared.checks.Check.{Check}
 use Rattle.basis_routes.specs.declared.checks.Check.TheVariants.{Joined}
 use Rattle.basis_routes.specs.JoinTable.{join_of}
@@ -16,3 +18,9 @@ abbrev pub join_checks : List BasisId → List BasisId → List Check
 join_checks [] rights = []
 join_checks (left ∷ lefts) [] = []
 join_checks (left ∷ lefts) (right ∷ rights) = Joined left right ∷ join_checks lefts rights
+
+-- each of these bases lies in the algebra of the one in its place in the other list, which is as long
+abbrev pub LieIn : List BasisId → List BasisId → Type 0
+LieIn [] [] = Unit {0}
+LieIn (old ∷ olds) (new ∷ news) = IsTrue (lies_in (algebra_of old) (algebra_of new)) × LieIn olds news
+LieIn _ _ = ⊥

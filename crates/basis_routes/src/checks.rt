@@ -4,7 +4,7 @@ ghost use Rattle.basis_routes.specs.declared.refusal.Refusal.TheVariants.{Memory
 ghost use Rattle.basis_routes.specs.Checks.{IsCheck, Tests};
 
 use crate::Refusal;
-use crate::joins::{is_routed, join_or_refuse};
+use crate::joins::{is_inside, is_routed, join_or_refuse};
 use hopf_laws::{BasisId, algebra};
 use hopf_num::Need;
 
@@ -26,6 +26,8 @@ pub enum Check {
     Joined { left: BasisId, right: BasisId },
     /// There is a way from one basis to another; else `NoRoute` with their algebras.
     Routed { from: BasisId, to: BasisId },
+    /// A basis lies in the algebra of another one; else `NotBuilt`.
+    Contained { from: BasisId, to: BasisId },
     /// A degree is at most a limit; else `Degree` with both.
     DegreeWithin { degree: u32, limit: u32 },
     /// What is needed has room; else `TooLarge` with it.
@@ -54,6 +56,10 @@ impl Check {
             Check::Routed { from, to } => refuse_unless(
                 is_routed(from, to),
                 Refusal::NoRoute(algebra(from), algebra(to)),
+            ),
+            Check::Contained { from, to } => refuse_unless(
+                is_inside(algebra(from), algebra(to)),
+                Refusal::NotBuilt,
             ),
             Check::DegreeWithin { degree, limit } => {
                 refuse_unless(degree <= limit, Refusal::Degree { degree, limit })

@@ -1,20 +1,21 @@
 //! Conversions of values to other bases.
-ghost use Rattle.std.specs.Prelude.{◌≡◌, ◌≢◌, ◌<◌, ◌≤◌, ◌-◌, ℕ, [], ◌∷◌, min, drop, IsTrue, map, length, get_or, unwrap_or, All, IfOk, IfErr, Ok, Err};
+ghost use Rattle.std.specs.Prelude.{◌≡◌, ◌≢◌, ◌<◌, ◌≤◌, ◌-◌, ℕ, [], ◌∷◌, min, drop, IsTrue, length, get_or, unwrap_or, All, IfOk, IfErr, Ok, Err};
 ghost use Rattle.basis_names.specs.Bases.{algebra_of, limit_of};
 ghost use Rattle.basis_names.specs.declared.bases.BasisId.{BasisId as BasisOf};
-ghost use Rattle.realisations.specs.Bases.{kind_of};
+ghost use Rattle.realisations.specs.Bases.{lies_in};
 ghost use Rattle.built_bases.specs.Table.{is_built};
 ghost use Rattle.hopf_laws.specs.Bases.{AreBuilt, least_limit};
 ghost use Rattle.hopf_laws.specs.Values.{Expands, IsValue, degree_of_value, reading_of};
 ghost use Rattle.basis_routes.specs.Changed.{AreSameTo, CanChange, way_checks};
 ghost use Rattle.basis_routes.specs.Checks.{Passes, Tests};
 ghost use Rattle.basis_routes.specs.Conversions.{ConversionRow, Converts, ConvertsAt, ConvertsFrom, conversion_checks, linear_checks};
+ghost use Rattle.basis_routes.specs.Joins.{LieIn};
 ghost use Rattle.basis_routes.specs.Lists.{replaced};
 ghost use Rattle.basis_routes.specs.Rows.{Answers, Checked, OrMemory};
 
-use crate::lifts::changed_over;
 use crate::places::component_of;
 use crate::{Bases, Check, Place, Refusal, Value, join};
+use basis_changes::change_between;
 use hopf_laws::{BasisId, algebra, limit};
 use hopf_num::{Need, OutOfMemory};
 use std::alloc::Global;
@@ -27,8 +28,26 @@ fn changed(alloc: Global, value: &Value, component: u32, to: BasisId) -> Result<
     ensures { IfOk result (Expands (replaced (component - 1) (to ∷ []) value.now.bases) (reading_of value.now)) }
 {
     let from = value.basis(component);
-    let combo = changed_over(alloc, value.combo(), component, from, to)?;
+    let combo = change_between(alloc, value.combo(), component, from, to)?;
     Ok(Value::over(value.bases().replaced(component, to), combo))
+}
+
+// The same, with want of memory as a refusal.
+fn changed_or_refused(
+    alloc: Global,
+    value: &Value,
+    component: u32,
+    to: BasisId,
+) -> Result<Value, Refusal>
+    requires first { 1 ≤ component }
+    requires change { CanChange (component - 1) to value.now }
+    requires room { All Passes (linear_checks value.now) }
+    ensures { OrMemory (Answers (replaced (component - 1) (to ∷ []) value.now.bases) (reading_of value.now)) result }
+{
+    match changed(alloc, value, component, to) {
+        Ok(made) => Ok(made),
+        Err(_) => Err(Refusal::Memory),
+    }
 }
 
 // Whether the linear rule holds.
@@ -43,7 +62,7 @@ fn test_room(value: &Value) -> Result<(), Refusal>
     Check::Room { need }.test()
 }
 
-// The same where the linear rule holds.
+// The value with a component over another basis, where the linear rule holds.
 fn changed_with_room(
     alloc: Global,
     value: &Value,
@@ -56,10 +75,7 @@ fn changed_with_room(
     ensures row { OrMemory (Checked (linear_checks value.now) (Answers (replaced (component - 1) (to ∷ []) value.now.bases) (reading_of value.now))) result }
 {
     test_room(value)?;
-    match changed(alloc, value, component, to) {
-        Ok(made) => Ok(made),
-        Err(_) => Err(Refusal::Memory),
-    }
+    changed_or_refused(alloc, value, component, to)
 }
 
 // Whether there is a way from the basis of a component to another one, and the degree is within the limit.
@@ -79,7 +95,23 @@ fn test_way(value: &Value, component: u32, to: BasisId) -> Result<(), Refusal>
     .test()
 }
 
-// The value with a component over another basis, where there is a way and room.
+// Whether a component can be converted to another basis: there is a way, there is room, and its basis lies
+// in the algebra of the other one.
+fn test_conversion(value: &Value, component: u32, to: BasisId) -> Result<(), Refusal>
+    requires first { 1 ≤ component }
+    requires last { component ≤ length value.now.bases }
+    ensures { Tests (conversion_checks (component - 1) to value.now) result }
+{
+    test_way(value, component, to)?;
+    test_room(value)?;
+    Check::Contained {
+        from: value.basis(component),
+        to,
+    }
+    .test()
+}
+
+// The value with a component over another basis, where the checks of a conversion pass.
 fn changed_on_the_way(
     alloc: Global,
     value: &Value,
@@ -92,8 +124,8 @@ fn changed_on_the_way(
     requires different { get_or value.now.bases (component - 1) to ≢ to }
     ensures { OrMemory (Checked (conversion_checks (component - 1) to value.now) (Answers (replaced (component - 1) (to ∷ []) value.now.bases) (reading_of value.now))) result }
 {
-    test_way(value, component, to)?;
-    changed_with_room(alloc, value, component, to)
+    test_conversion(value, component, to)?;
+    changed_or_refused(alloc, value, component, to)
 }
 
 // The same value.
@@ -110,9 +142,9 @@ fn copied(alloc: Global, value: &Value) -> Result<Value, Refusal>
 ///
 /// Its checks, in order: the component is there (`Rank` where it has no number and is not the only one,
 /// else `Component`). Where it has the basis already, the value stays as it is. Else there is a way from
-/// its basis to the other one (`NoRoute`), the degree is within the limits (`Degree`), and the norm
-/// times 2^(5n), n the degree, has room (`TooLarge`). The cost is that of the changes of its codes, and of
-/// sorting their terms.
+/// its basis to the other one (`NoRoute`), the degree is within the limits (`Degree`), the norm times
+/// 2^(5n), n the degree, has room (`TooLarge`), and the algebra of the other basis contains that of its own
+/// (`NotBuilt`). The cost is that of the changes of its codes, and of sorting their terms.
 pub fn convert(alloc: Global, value: &Value, at: Place, to: BasisId) -> Result<Value, Refusal>
     requires { IsTrue (is_built to) }
     ensures { OrMemory (ConversionRow at to value.now) result }
@@ -129,7 +161,7 @@ fn brought(alloc: Global, value: Value, component: u32, to: BasisId) -> Result<V
     requires first { 1 ≤ component }
     requires last { component ≤ length value.bases }
     requires built { IsTrue (is_built to) }
-    requires kind { kind_of (get_or value.bases (component - 1) to) ≡ kind_of to }
+    requires inside { IsTrue (lies_in (algebra_of (get_or value.bases (component - 1) to)) (algebra_of to)) }
     requires degree { degree_of_value value ≤ limit_of (algebra_of to) }
     ensures valid { IsValue value }
     ensures row { OrMemory (ConvertsAt (component - 1) to value) result }
@@ -148,7 +180,7 @@ fn converted_from(
     targets: &Bases,
 ) -> Result<Value, Refusal>
     requires built { AreBuilt targets.now }
-    requires kinds { map kind_of targets.now ≡ map kind_of value.bases }
+    requires inside { LieIn value.bases targets.now }
     requires degree { degree_of_value value ≤ least_limit targets.now }
     ensures { OrMemory (ConvertsFrom first (drop first targets.now) value) result }
 {
@@ -188,7 +220,7 @@ fn converted_behind(
     requires first { 1 ≤ component }
     requires last { component ≤ length value.now.bases }
     requires built { AreBuilt targets.now }
-    requires kinds { map kind_of targets.now ≡ map kind_of value.now.bases }
+    requires inside { LieIn value.now.bases targets.now }
     requires degree { degree_of_value value.now ≤ least_limit targets.now }
     requires different { (d : BasisOf) → get_or value.now.bases (component - 1) d ≢ get_or targets.now (component - 1) d }
     ensures { OrMemory (ConvertsFrom (component - 1) (drop (component - 1) targets.now) value.now) result }
@@ -207,7 +239,7 @@ pub fn converted_operand(
     targets: &Bases,
 ) -> Result<Option<Value>, Refusal>
     requires built { AreBuilt targets.now }
-    requires kinds { map kind_of targets.now ≡ map kind_of value.now.bases }
+    requires inside { LieIn value.now.bases targets.now }
     requires degree { degree_of_value value.now ≤ least_limit targets.now }
     ensures value { IfOk result (λ made. Converts targets.now value.now (Ok (unwrap_or made value.now))) }
     ensures refusal { IfErr result (λ refusal. OrMemory (Converts targets.now value.now) (Err refusal)) }
@@ -226,7 +258,7 @@ pub fn converted_operand(
 /// The same of a value that is handed over: where it is over these bases already, it is the answer.
 pub fn converted(alloc: Global, value: Value, targets: &Bases) -> Result<Value, Refusal>
     requires built { AreBuilt targets.now }
-    requires kinds { map kind_of targets.now ≡ map kind_of value.bases }
+    requires inside { LieIn value.bases targets.now }
     requires degree { degree_of_value value ≤ least_limit targets.now }
     ensures { OrMemory (Converts targets.now value) result }
 {

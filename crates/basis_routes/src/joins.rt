@@ -47,7 +47,7 @@ fn is_of_words(algebra: AlgebraId) -> bool
 }
 
 // Whether the first algebra lies in the second, or is the same.
-fn is_inside(inner: AlgebraId, outer: AlgebraId) -> bool
+pub(crate) fn is_inside(inner: AlgebraId, outer: AlgebraId) -> bool
     ensures { result ≡ lies_in inner outer }
 {
     match inner {

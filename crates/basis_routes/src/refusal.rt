@@ -36,6 +36,8 @@ pub enum Refusal {
         u: Code,
         v: Code,
     },
+    /// An element is to be converted into an algebra that does not contain its own, which is not built yet.
+    NotBuilt,
     /// Memory ran out.
     Memory,
 }

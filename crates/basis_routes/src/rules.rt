@@ -9,12 +9,16 @@ ghost use Rattle.basis_names.specs.Bases.{algebra_of, limit_of};
 ghost use Rattle.built_bases.specs.Table.{is_built};
 ghost use Rattle.basis_routes.specs.Rules.{IsIndexWithin};
 
+use fqsym::{FqsymF, FqsymG};
 use hopf_laws::BasisId;
 use hopf_num::OutOfMemory;
 use index_rules::{Algebra, Coalgebra, Space};
 use linear_combos::{Code, Codes, Combo};
+use ncsf::{NcsfL, NcsfR, NcsfS};
+use pbt::PbtP;
 use qsym::{QsymF, QsymM};
 use std::alloc::Global;
+use wqsym::WqsymM;
 
 // The degree of an index, by its code.
 pub(crate) fn degree_of_code(basis: BasisId, code: &Code) -> u32
@@ -36,14 +40,14 @@ pub fn is_index(basis: BasisId, code: &Code) -> bool
     match basis {
         BasisId::QsymM => QsymM::is_index(code),
         BasisId::QsymF => QsymF::is_index(code),
-        BasisId::NcsfS
-        | BasisId::NcsfL
-        | BasisId::NcsfR
-        | BasisId::FqsymF
-        | BasisId::FqsymG
-        | BasisId::WqsymM
-        | BasisId::FsymS
-        | BasisId::PbtP => false,
+        BasisId::NcsfS => NcsfS::is_index(code),
+        BasisId::NcsfL => NcsfL::is_index(code),
+        BasisId::NcsfR => NcsfR::is_index(code),
+        BasisId::FqsymF => FqsymF::is_index(code),
+        BasisId::FqsymG => FqsymG::is_index(code),
+        BasisId::WqsymM => WqsymM::is_index(code),
+        BasisId::FsymS => false,
+        BasisId::PbtP => PbtP::is_index(code),
     }
 }
 
@@ -56,14 +60,14 @@ pub fn list_of(alloc: Global, basis: BasisId, degree: u32) -> Result<Codes, OutO
     match basis {
         BasisId::QsymM => QsymM::list(alloc, degree),
         BasisId::QsymF => QsymF::list(alloc, degree),
-        BasisId::NcsfS
-        | BasisId::NcsfL
-        | BasisId::NcsfR
-        | BasisId::FqsymF
-        | BasisId::FqsymG
-        | BasisId::WqsymM
-        | BasisId::FsymS
-        | BasisId::PbtP => unreachable!(),
+        BasisId::NcsfS => NcsfS::list(alloc, degree),
+        BasisId::NcsfL => NcsfL::list(alloc, degree),
+        BasisId::NcsfR => NcsfR::list(alloc, degree),
+        BasisId::FqsymF => FqsymF::list(alloc, degree),
+        BasisId::FqsymG => FqsymG::list(alloc, degree),
+        BasisId::WqsymM => WqsymM::list(alloc, degree),
+        BasisId::FsymS => unreachable!(),
+        BasisId::PbtP => PbtP::list(alloc, degree),
     }
 }
 
@@ -85,14 +89,14 @@ pub fn product_of(
     match basis {
         BasisId::QsymM => QsymM::product(alloc, left, right),
         BasisId::QsymF => QsymF::product(alloc, left, right),
-        BasisId::NcsfS
-        | BasisId::NcsfL
-        | BasisId::NcsfR
-        | BasisId::FqsymF
-        | BasisId::FqsymG
-        | BasisId::WqsymM
-        | BasisId::FsymS
-        | BasisId::PbtP => unreachable!(),
+        BasisId::NcsfS => NcsfS::product(alloc, left, right),
+        BasisId::NcsfL => NcsfL::product(alloc, left, right),
+        BasisId::NcsfR => NcsfR::product(alloc, left, right),
+        BasisId::FqsymF => FqsymF::product(alloc, left, right),
+        BasisId::FqsymG => FqsymG::product(alloc, left, right),
+        BasisId::WqsymM => WqsymM::product(alloc, left, right),
+        BasisId::FsymS => unreachable!(),
+        BasisId::PbtP => PbtP::product(alloc, left, right),
     }
 }
 
@@ -106,13 +110,13 @@ pub fn coproduct_of(alloc: Global, basis: BasisId, code: &Code) -> Result<Combo,
     match basis {
         BasisId::QsymM => QsymM::coproduct(alloc, code),
         BasisId::QsymF => QsymF::coproduct(alloc, code),
-        BasisId::NcsfS
-        | BasisId::NcsfL
-        | BasisId::NcsfR
-        | BasisId::FqsymF
-        | BasisId::FqsymG
-        | BasisId::WqsymM
-        | BasisId::FsymS
-        | BasisId::PbtP => unreachable!(),
+        BasisId::NcsfS => NcsfS::coproduct(alloc, code),
+        BasisId::NcsfL => NcsfL::coproduct(alloc, code),
+        BasisId::NcsfR => NcsfR::coproduct(alloc, code),
+        BasisId::FqsymF => FqsymF::coproduct(alloc, code),
+        BasisId::FqsymG => FqsymG::coproduct(alloc, code),
+        BasisId::WqsymM => WqsymM::coproduct(alloc, code),
+        BasisId::FsymS => unreachable!(),
+        BasisId::PbtP => PbtP::coproduct(alloc, code),
     }
 }

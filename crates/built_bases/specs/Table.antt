@@ -7,11 +7,11 @@ use Rattle.basis_names.specs.declared.bases.BasisId.TheVariants.{QsymM, QsymF, N
 abbrev pub is_built : BasisId → Bool
 is_built QsymM = true
 is_built QsymF = true
-is_built NcsfS = false
-is_built NcsfL = false
-is_built NcsfR = false
-is_built FqsymF = false
-is_built FqsymG = false
-is_built WqsymM = false
+is_built NcsfS = true
+is_built NcsfL = true
+is_built NcsfR = true
+is_built FqsymF = true
+is_built FqsymG = true
+is_built WqsymM = true
 is_built FsymS = false
-is_built PbtP = false
+is_built PbtP = true

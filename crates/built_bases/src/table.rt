@@ -12,13 +12,13 @@ pub fn is_built_basis(basis: BasisId) -> bool
     match basis {
         BasisId::QsymM => true,
         BasisId::QsymF => true,
-        BasisId::NcsfS => false,
-        BasisId::NcsfL => false,
-        BasisId::NcsfR => false,
-        BasisId::FqsymF => false,
-        BasisId::FqsymG => false,
-        BasisId::WqsymM => false,
+        BasisId::NcsfS => true,
+        BasisId::NcsfL => true,
+        BasisId::NcsfR => true,
+        BasisId::FqsymF => true,
+        BasisId::FqsymG => true,
+        BasisId::WqsymM => true,
         BasisId::FsymS => false,
-        BasisId::PbtP => false,
+        BasisId::PbtP => true,
     }
 }

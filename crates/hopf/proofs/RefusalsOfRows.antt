@@ -8,7 +8,7 @@ use Rattle.session_tokens.specs.declared.lexeme.Linear.TheVariants.{Coproduct, A
 use Rattle.hopf_laws.specs.Bases.{least_limit}
 use Rattle.hopf_laws.specs.Values.{Expansion, reading_of, degree_of_value}
 use Rattle.basis_routes.specs.declared.checks.Check.{Check}
-use Rattle.basis_routes.specs.declared.checks.Check.TheVariants.{SameRank, RankWithin, HasComponent, Scalar, Nonzero, Joined, Routed, DegreeWithin, Room}
+use Rattle.basis_routes.specs.declared.checks.Check.TheVariants.{SameRank, RankWithin, HasComponent, Scalar, Nonzero, Joined, Routed, Contained, DegreeWithin, Room}
 use Rattle.basis_routes.specs.declared.place.Place.{Place}
 use Rattle.basis_routes.specs.declared.refusal.Refusal.{Refusal}
 use Rattle.basis_routes.specs.declared.refusal.Refusal.TheVariants.{Memory}
@@ -37,6 +37,7 @@ check_told (Scalar rank) is = absurd (cc)
 check_told (Nonzero num) is = absurd (cc)
 check_told (Joined left right) is = absurd (cc)
 check_told (Routed from to) is = absurd (cc)
+check_told (Contained from to) is = absurd (cc)
 check_told (DegreeWithin degree limit) is = absurd (cc)
 check_told (Room need) is = absurd (cc)
 

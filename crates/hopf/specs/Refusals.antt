@@ -32,6 +32,7 @@ number_of_value (value.NoPairing a b) = 15
 number_of_value (value.Degree degree limit) = 16
 number_of_value (value.TooLarge need) = 17
 number_of_value (value.NotInSub algebra u v) = 18
+number_of_value value.NotBuilt = 20
 number_of_value value.Memory = 0
 
 abbrev pub number_of : StatementRefusal → ℕ
@@ -67,6 +68,7 @@ text_of_value (value.NoPairing a b) = codes "no pairing of " ++ name_of_algebra 
 text_of_value (value.Degree degree limit) = codes "degree " ++ decimal degree ++ codes " is past " ++ decimal limit
 text_of_value (value.TooLarge need) = codes "coefficient room passed"
 text_of_value (value.NotInSub algebra u v) = text_not_in algebra u v
+text_of_value value.NotBuilt = codes "not built yet"
 text_of_value value.Memory = codes "out of memory"
 
 abbrev pub text_of : StatementRefusal → List ℕ

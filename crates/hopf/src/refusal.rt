@@ -60,6 +60,7 @@ fn value_number(refusal: Refusal) -> u32
         Refusal::Degree { .. } => 16,
         Refusal::TooLarge(_) => 17,
         Refusal::NotInSub { .. } => 18,
+        Refusal::NotBuilt => 20,
         Refusal::Memory => 0,
     }
 }
@@ -150,6 +151,7 @@ fn push_value(alloc: Global, refusal: Refusal, out: &mut Bytes) -> Result<(), Ou
         }
         Refusal::TooLarge(_) => out.push_all(b"coefficient room passed"),
         Refusal::NotInSub { algebra, u, v } => push_not_in(algebra, u, v, out),
+        Refusal::NotBuilt => out.push_all(b"not built yet"),
         Refusal::Memory => out.push_all(b"out of memory"),
     }
 }

@@ -1,11 +1,8 @@
 -- What the common checks of two operands say: one rank, joins, and a degree within their limit. The joins of built bases are built.
-use Rattle.std.proofs.Common.{◌≡◌, ℕ, Bool, true, false, IsTrue, List, [], ◌∷◌, length, refl, ◌∙◌, arith}
+use Rattle.std.proofs.Common.{◌≡◌, ℕ, Bool, true, false, IsTrue, List, [], ◌∷◌, length, refl, arith}
 use Rattle.std.specs.Prelude.{All, unwrap_or, if◌then◌else◌}
-use Rattle.std.specs.List.{list_all}
 use Rattle.std.proofs.lemmas.List.Elements.{All-head, All-tail}
-use Rattle.std.proofs.lemmas.List.Sums.{AllPass-from_list_all}
 use Rattle.basis_names.specs.declared.bases.BasisId.{BasisId}
-use Rattle.basis_names.specs.Bases.{bases}
 use Rattle.built_bases.specs.Table.{is_built}
 use Rattle.hopf_laws.specs.Bases.{AreBuilt, least_limit}
 use Rattle.hopf_laws.specs.Values.{Expansion, IsValue}
@@ -13,7 +10,8 @@ use Rattle.basis_routes.specs.declared.checks.Check.TheVariants.{SameRank, Degre
 use Rattle.basis_routes.specs.Checks.{Passes}
 use Rattle.basis_routes.specs.JoinTable.{join_of}
 use Rattle.basis_routes.specs.Joins.{joined, join_checks}
-use Rattle.basis_routes.proofs.JoinedKinds.{joined_kinds, of_each}
+use Rattle.basis_routes.proofs.ContainedBases.{joined_inside}
+use Rattle.basis_routes.proofs.JoinedKinds.{of_pairs}
 use Rattle.basis_routes.proofs.Rows.{passes_earlier, passes_last}
 use Rattle.hopf_ops.specs.Answers.{AreTargets}
 use Rattle.hopf_ops.specs.Operations.{common_checks}
@@ -22,16 +20,8 @@ use Rattle.hopf_ops.specs.Operations.{common_checks}
 abbrev join_is_built : BasisId → BasisId → Bool
 join_is_built left right = if is_built left then (if is_built right then is_built (unwrap_or (join_of left right) left) else true) else true
 
-abbrev joins_are_built : BasisId → Bool
-joins_are_built left = list_all (λ right. join_is_built left right) bases
-
-all_joins_are_built : list_all joins_are_built bases ≡ true
-all_joins_are_built = refl
-
 join_built : (left right : BasisId) → join_is_built left right ≡ true
-join_built left right =
-    let of_left : joins_are_built left ≡ true = of_each joins_are_built (AllPass-from_list_all joins_are_built bases all_joins_are_built) left in
-    of_each (λ basis. join_is_built left basis) (AllPass-from_list_all (λ basis. join_is_built left basis) bases of_left) right
+join_built = of_pairs join_is_built refl
 
 by_tests : (p q r : Bool) → (if p then (if q then r else true) else true) ≡ true → p ≡ true → q ≡ true → r ≡ true
 by_tests true true r test hp hq = test
@@ -55,12 +45,12 @@ targets_of degree a b ha hb pass =
     let joins = join_checks a.bases b.bases in
     let front = passes_earlier (ranks ∷ joins) (within ∷ []) pass in
     let long : length a.bases ≡ length b.bases = All-head Passes ranks joins front in
-    let kinds = joined_kinds a.bases b.bases long (All-tail Passes ranks joins front) in
+    let inside = joined_inside a.bases b.bases long (All-tail Passes ranks joins front) in
     record {
       left_value = ha;
       right_value = hb;
       built = joined_built a.bases b.bases ha.built hb.built long;
-      left = kinds.1;
-      right = kinds.1 ∙ kinds.0;
+      left = inside.0;
+      right = inside.1;
       within = passes_last (ranks ∷ joins) within pass;
     }

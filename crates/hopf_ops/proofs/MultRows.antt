@@ -6,7 +6,7 @@ use Rattle.std.proofs.lemmas.List.Elements.{All-cons, All-nil, All-head, All-tai
 use Rattle.basis_names.specs.declared.bases.BasisId.{BasisId}
 use Rattle.basis_names.specs.Bases.{algebra_of, limit_of}
 use Rattle.built_bases.specs.Table.{is_built}
-use Rattle.realisations.specs.Bases.{kind_of}
+use Rattle.realisations.specs.Bases.{kind_of, lies_in}
 use Rattle.realisations.specs.Laws.{IsDoubled}
 use Rattle.realisations.specs.Points.{Points, ArePoints}
 use Rattle.realisations.specs.Readings.{applied, mult, kinds_after_at, AgreeAt}
@@ -24,6 +24,7 @@ use Rattle.basis_routes.specs.Places.{position_of, neighbour_checks}
 use Rattle.basis_routes.specs.Rows.{Answer, Row, Checked, Then, Answers}
 use Rattle.basis_routes.proofs.BasesAround.{built-back, built-here, within_each, within-back}
 use Rattle.basis_routes.proofs.ComponentsExist.{product_exists}
+use Rattle.basis_routes.proofs.ContainedBases.{lies_kind}
 use Rattle.basis_routes.proofs.ConversionsExist.{linear_checks_are, converts_at_some, NotAbove}
 use Rattle.basis_routes.proofs.ConvertedRows.{brought_expands, expands_trans}
 use Rattle.basis_routes.proofs.OnceRows.{IsOnce, checked_once, then_once, brought_once, answers_once}
@@ -35,7 +36,7 @@ use Rattle.hopf_ops.specs.Operations.{NeighbourProduct, MultAt, MultRow, mult_ba
 use Rattle.hopf_ops.proofs.ConvertedOperands.{den-positive}
 use Rattle.hopf_ops.proofs.AppliedReadings.{applied_agrees}
 use Rattle.hopf_ops.proofs.BuiltJoins.{joined_built}
-use Rattle.hopf_ops.proofs.Neighbours.{doubled_kinds, kinds-join, kinds-mult}
+use Rattle.hopf_ops.proofs.Neighbours.{doubled_kinds, inside-join, kinds-mult}
 
 -- two neighbours in a list, and the bases before and after them
 record Neighbours : Type 0 where
@@ -89,15 +90,22 @@ mult_bases-at : (f l : List BasisId) (x y : BasisId) → mult_bases (length f) (
 mult_bases-at [] l x y = refl
 mult_bases-at (b ∷ f) l x y = ap (λ bs. b ∷ bs) (mult_bases-at f l x y)
 
--- both are of the kind of the join, and it is built
+-- both lie in the algebra of the join, and so are of its kind
 record AreJoined (p : Neighbours) : Type 0 where
+  left_inside : IsTrue (lies_in (algebra_of p.left) (algebra_of (join_at p)))
+  right_inside : IsTrue (lies_in (algebra_of p.right) (algebra_of (join_at p)))
   left_kind : kind_of p.left ≡ kind_of (join_at p)
   right_kind : kind_of p.right ≡ kind_of (join_at p)
 
 are_joined : (p : Neighbours) → Passes (Joined p.left p.right) → AreJoined p
 are_joined p pass =
-    let kinds = kinds-join p.left p.right pass in
-    record { left_kind = kinds.0; right_kind = kinds.1 }
+    let inside = inside-join p.left p.right pass in
+    record {
+      left_inside = inside.0;
+      right_inside = inside.1;
+      left_kind = lies_kind p.left (join_at p) inside.0;
+      right_kind = lies_kind p.right (join_at p) inside.1;
+    }
 
 -- the checks of two neighbours: they have a join, and the degree is within the limits
 abbrev pair_checks : Expansion → Neighbours → List Check
@@ -211,11 +219,11 @@ module _ (a : Expansion) (ha : IsValue a) (p : Neighbours) where
         let small : degree_of_value a ≤ limit_of (algebra_of (join_at p)) =
         (within-back (degree_of_value a) p.before (join_at p ∷ p.after) (within_each (degree_of_value a) (left_over p) degree)).0 in
         then_some (ConvertsAt n (join_at p) a) Second (NotAbove a) Any
-        (converts_at_some n (join_at p) a p.before (p.right ∷ p.after) p.left ha at refl join_built joined.left_kind small)
+        (converts_at_some n (join_at p) a p.before (p.right ∷ p.after) p.left ha at refl join_built joined.left_inside small)
         (λ x hx lx.
         let first = first_brought x hx in
         then_some (ConvertsAt (n + 1) (join_at p) x) Last (NotAbove x) Any
-        (converts_at_some (n + 1) (join_at p) x (p.before ++ join_at p ∷ []) p.after p.right first.value (second_at x first) second_long join_built joined.right_kind (omega (arith, lx, small)))
+        (converts_at_some (n + 1) (join_at p) x (p.before ++ join_at p ∷ []) p.after p.right first.value (second_at x first) second_long join_built joined.right_inside (omega (arith, lx, small)))
         (λ y hy ly.
         let brought = both_brought x y joined first hy in
         checked_some (linear_checks y) (Answers (left_over p) (applied mult n (reading_of a))) Any (linear_checks_are y brought.value)

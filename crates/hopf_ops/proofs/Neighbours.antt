@@ -1,16 +1,17 @@
--- Two neighbours in a list of bases: the kinds of their join, and those of their product.
-use Rattle.std.proofs.Common.{◌≡◌, List, [], ◌∷◌, ◌++◌, map, length, refl, sym, ◌∙◌, ap}
+-- Two neighbours in a list of bases: the algebra and the kind of their join, and the kinds of their product.
+use Rattle.std.proofs.Common.{◌≡◌, IsTrue, List, [], ◌∷◌, ◌++◌, map, length, refl, ap}
 use Rattle.std.specs.Prelude.{unwrap_or}
 use Rattle.std.proofs.lemmas.List.Elements.{All-cons, All-nil}
 use Rattle.basis_names.specs.declared.bases.BasisId.{BasisId}
-use Rattle.realisations.specs.Bases.{kind_of}
+use Rattle.basis_names.specs.Bases.{algebra_of}
+use Rattle.realisations.specs.Bases.{kind_of, lies_in}
 use Rattle.realisations.specs.Laws.{IsDoubled}
-use Rattle.realisations.specs.Points.{Kind}
 use Rattle.realisations.specs.Readings.{mult, kinds_after_at}
 use Rattle.basis_routes.specs.declared.checks.Check.TheVariants.{Joined}
 use Rattle.basis_routes.specs.Checks.{Passes}
 use Rattle.basis_routes.specs.JoinTable.{join_of}
-use Rattle.basis_routes.proofs.JoinedKinds.{joined_kinds}
+use Rattle.basis_routes.specs.Joins.{LieIn}
+use Rattle.basis_routes.proofs.ContainedBases.{joined_inside, lies_itself}
 
 -- two components of one kind
 pub doubled_kinds : (before after : List BasisId) (basis : BasisId) → IsDoubled (length before) (map kind_of (before ++ basis ∷ basis ∷ after))
@@ -22,15 +23,15 @@ pub kinds-mult : (before after : List BasisId) (x y join : BasisId) → kind_of 
 kinds-mult [] after x y join kind = ap (λ k. k ∷ map kind_of after) kind
 kinds-mult (b ∷ before) after x y join kind = ap (λ ks. kind_of b ∷ ks) (kinds-mult before after x y join kind)
 
-same_head : (x y : Kind) (xs ys : List Kind) → x ∷ xs ≡ y ∷ ys → x ≡ y
-same_head x y xs ys same = cc
+-- both lie in the algebra of their join
+pub inside-join : (left right : BasisId) → Passes (Joined left right)
+    → IsTrue (lies_in (algebra_of left) (algebra_of (unwrap_or (join_of left right) left))) × IsTrue (lies_in (algebra_of right) (algebra_of (unwrap_or (join_of left right) left)))
+inside-join left right pass =
+    let inside = joined_inside (left ∷ []) (right ∷ []) refl (All-cons Passes (Joined left right) [] pass (All-nil Passes)) in
+    (inside.0.0, inside.1.0)
 
--- both are of the kind of their join
-pub kinds-join : (left right : BasisId) → Passes (Joined left right)
-    → (kind_of left ≡ kind_of (unwrap_or (join_of left right) left)) × (kind_of right ≡ kind_of (unwrap_or (join_of left right) left))
-kinds-join left right pass =
-    let join = unwrap_or (join_of left right) left in
-    let kinds = joined_kinds (left ∷ []) (right ∷ []) refl (All-cons Passes (Joined left right) [] pass (All-nil Passes)) in
-    let same = same_head (kind_of left) (kind_of right) [] [] kinds.0 in
-    let of_join = same_head (kind_of join) (kind_of left) [] [] kinds.1 in
-    (sym of_join, sym (of_join ∙ same))
+-- with a basis in the place of both, in the algebra of which they lie
+pub lies_doubled : (before after : List BasisId) (left right join : BasisId) → IsTrue (lies_in (algebra_of left) (algebra_of join)) → IsTrue (lies_in (algebra_of right) (algebra_of join))
+    → LieIn (before ++ left ∷ right ∷ after) (before ++ join ∷ join ∷ after)
+lies_doubled [] after left right join first second = (first, (second, lies_itself after))
+lies_doubled (b ∷ before) after left right join first second = ((lies_itself (b ∷ [])).0, lies_doubled before after left right join first second)

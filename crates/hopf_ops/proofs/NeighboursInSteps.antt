@@ -17,19 +17,21 @@ use Rattle.basis_routes.specs.declared.checks.Check.TheVariants.{Joined, DegreeW
 use Rattle.basis_routes.specs.declared.refusal.Refusal.{Refusal}
 use Rattle.basis_routes.specs.Checks.{Passes, IsRefusalOf, Tests}
 use Rattle.basis_routes.specs.Conversions.{linear_checks, ConvertsAt, ConvertsFrom, Converts}
+use Rattle.basis_routes.specs.Joins.{LieIn}
 use Rattle.basis_routes.specs.JoinTable.{join_of}
 use Rattle.basis_routes.specs.Lists.{doubled, without, replaced}
 use Rattle.basis_routes.specs.Rows.{Answer, Row, Checked, Then, Answers, OrMemory}
 use Rattle.basis_routes.proofs.BasesAround.{doubled-around, IsWithin, within_each, within_least}
+use Rattle.basis_routes.proofs.ContainedBases.{lies_kinds}
 use Rattle.basis_routes.proofs.ConvertedRows.{brought_expands, converts_expands}
-use Rattle.basis_routes.proofs.ReplacedBases.{get_or-at, replaced-at, kinds-behind}
+use Rattle.basis_routes.proofs.ReplacedBases.{get_or-at, replaced-at}
 use Rattle.basis_routes.proofs.ValueRows.{same_value, value_is_no_refusal}
 use Rattle.hopf_ops.specs.Answers.{AreJoined}
 use Rattle.hopf_ops.specs.Operations.{NeighbourProduct, MultAt}
 use Rattle.hopf_ops.proofs.AppliedReadings.{applied_agrees}
 use Rattle.hopf_ops.proofs.BuiltJoins.{joined_built}
 use Rattle.hopf_ops.proofs.ConvertedOperands.{expands_agreeing}
-use Rattle.hopf_ops.proofs.Neighbours.{doubled_kinds, kinds-join, kinds-mult}
+use Rattle.hopf_ops.proofs.Neighbours.{doubled_kinds, inside-join, kinds-mult, lies_doubled}
 use Rattle.hopf_ops.proofs.RowsInSteps.{step_passes, step_refuses, tests_row}
 
 -- two neighbours in a list: the bases before and after them
@@ -155,15 +157,16 @@ module _ (bases : List BasisId) (n : ℕ) (a : Expansion) (j : AreJoined bases n
   both_is : doubled n bases ≡ j.before ++ join ∷ join ∷ j.after
   both_is = ap (λ bs. doubled n bs) j.over ∙ doubled-at n j.before j.after join j.long
 
-  -- they are of the kinds of the value's
-  pub both_kinds : map kind_of (doubled n bases) ≡ map kind_of a.bases
-  both_kinds =
-      let kinds = kinds-join j.left j.right j.join in
-      let first : kind_of join ≡ kind_of j.left = sym kinds.0 in
-      let second : kind_of join ≡ kind_of j.right = sym kinds.1 in
-      ap (λ bs. map kind_of bs) both_is
-      ∙ kinds-behind j.before (join ∷ join ∷ j.after) (j.left ∷ j.right ∷ j.after) (λ i. first i ∷ second i ∷ map kind_of j.after)
-      ∙ ap (λ bs. map kind_of bs) (sym j.is)
+  -- the value's lie in them
+  pub both_inside : LieIn a.bases (doubled n bases)
+  both_inside =
+      let inside = inside-join j.left j.right j.join in
+      subst (λ bs. LieIn bs (doubled n bases)) (sym j.is)
+      (subst (λ bs. LieIn (j.before ++ j.left ∷ j.right ∷ j.after) bs) (sym both_is) (lies_doubled j.before j.after j.left j.right join inside.0 inside.1))
+
+  -- they are of the same kinds
+  both_kinds : map kind_of (doubled n bases) ≡ map kind_of a.bases
+  both_kinds = lies_kinds a.bases (doubled n bases) both_inside
 
   -- built
   pub both_built : AreBuilt (doubled n bases)

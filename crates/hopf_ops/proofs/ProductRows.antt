@@ -14,6 +14,7 @@ use Rattle.basis_routes.specs.Checks.{Passes}
 use Rattle.basis_routes.specs.Conversions.{BothConvert}
 use Rattle.basis_routes.specs.Joins.{joined}
 use Rattle.basis_routes.specs.Rows.{Answer, Row, Checked, Answers, Decides}
+use Rattle.basis_routes.proofs.ContainedBases.{lies_kinds, lies_length}
 use Rattle.basis_routes.proofs.ConversionsExist.{IsConverted, both_convert_some}
 use Rattle.basis_routes.proofs.Degrees.{degree-small}
 use Rattle.basis_routes.proofs.OnceRows.{IsOnce, checked_once, answers_once, both_convert_once}
@@ -24,7 +25,6 @@ use Rattle.hopf_ops.specs.ReadingOperations.{is_scalar, product_or_tensor}
 use Rattle.hopf_ops.proofs.BuiltJoins.{targets_of}
 use Rattle.hopf_ops.proofs.ConvertedOperands.{den-positive, product_of_converted}
 use Rattle.hopf_ops.proofs.ProductsExist.{product_value}
-use Rattle.hopf_ops.proofs.ProductsOfOperands.{length-kinds}
 use Rattle.hopf_ops.proofs.ScalarProductsExist.{scalar_product_value}
 use Rattle.hopf_ops.proofs.SumsExist.{common_checks_are}
 use Rattle.hopf_ops.proofs.TensorRows.{product_room_are, scalar_products_decide}
@@ -81,13 +81,13 @@ module _ (a b : Expansion) (ha : IsValue a) (hb : IsValue b) where
       let row = checked_some (common_checks degree a b) (BothConvert targets a b Last) Any (common_checks_are degree a b)
       (λ pass.
       let are = targets_of degree a b ha hb pass in
-      let long : length targets ≡ length a.bases = length-kinds targets a.bases are.left in
+      let long : length a.bases ≡ length targets = lies_length a.bases targets are.left in
       both_convert_some targets a b Last Any ha hb are.left are.right are.built (omega (arith, are.within)) (omega (arith, are.within))
       (λ x y hx hy.
       checked_some (room_of_both x y) (Answers targets reading) Any
       (product_room_are (5 * (degree_of_value x + degree_of_value y)) x y (omega (arith, degree-small x hx.expands.value, degree-small y hy.expands.value)))
       (λ room.
-      let v = product_of_both x y (omega (arith, some, long)) are.left are.within hx hy room in
+      let v = product_of_both x y (omega (arith, some, long)) (lies_kinds a.bases targets are.left) are.within hx hy room in
       answers_some targets reading Any v.0 v.1 tt))) in
       (row.answer, row.allowed)
 
@@ -102,7 +102,7 @@ module _ (a b : Expansion) (ha : IsValue a) (hb : IsValue b) where
     once = component_row_once;
     some = component_row_some some;
     reads = component_row_reads;
-    kinds = λ v h. (targets_of degree a b ha hb (checked_value (common_checks degree a b) (ProductOver targets a b) v h).0).left;
+    kinds = λ v h. lies_kinds a.bases targets (targets_of degree a b ha hb (checked_value (common_checks degree a b) (ProductOver targets a b) v h).0).left;
   }
 
   -- by whether one of the operands is a scalar

@@ -6,16 +6,17 @@ use Rattle.std.proofs.lemmas.List.{length-map}
 use Rattle.std.proofs.lemmas.Result.{IfOk-weaker}
 use Rattle.basis_names.specs.declared.bases.BasisId.{BasisId}
 use Rattle.realisations.specs.Bases.{kind_of}
-use Rattle.realisations.specs.Points.{Kind}
 use Rattle.realisations.specs.Readings.{product}
 use Rattle.hopf_laws.specs.Bases.{AreBuilt, least_limit}
 use Rattle.hopf_laws.specs.Values.{Expansion, IsValue, Expands, reading_of, degree_of_value}
 use Rattle.basis_routes.specs.declared.refusal.Refusal.{Refusal}
 use Rattle.basis_routes.specs.Checks.{Tests}
 use Rattle.basis_routes.specs.Conversions.{Converts}
+use Rattle.basis_routes.specs.Joins.{LieIn}
 use Rattle.basis_routes.specs.Rows.{Answer, Row, Checked, Then, Answers, OrMemory}
 use Rattle.hopf_ops.specs.Answers.{AreTargets}
 use Rattle.hopf_ops.specs.Operations.{has_scalar, product_room, ComponentRow, ProductBy, ProductOver, ProductRow}
+use Rattle.basis_routes.proofs.ContainedBases.{lies_kinds}
 use Rattle.basis_routes.proofs.ConversionsExist.{converts_some}
 use Rattle.basis_routes.proofs.ConvertedRows.{converts_expands}
 use Rattle.basis_routes.proofs.OnceRows.{converts_once}
@@ -49,10 +50,6 @@ pub component_row : (a b : Expansion) (answer : Answer) → 1 ≤ length a.bases
 component_row a b answer some some' row =
     subst (λ (scalar : Bool). OrMemory (ProductBy scalar a b) answer) (sym (has_scalar-ranks a b ∙ no_scalar (length a.bases) (length b.bases) some some')) row
 
--- bases of the kinds of others are as many
-pub length-kinds : (targets bases : List BasisId) → map kind_of targets ≡ map kind_of bases → length targets ≡ length bases
-length-kinds targets bases kinds = sym (length-map targets kind_of) ∙ ap (λ (ks : List Kind). length ks) kinds ∙ length-map bases kind_of
-
 module _ (targets : List BasisId) (a b : Expansion) where
   -- the product rule of what the operands came to, and the answer
   abbrev Last : Expansion → Expansion → Row
@@ -73,7 +70,8 @@ module _ (targets : List BasisId) (a b : Expansion) where
   product_passes x y degree answer are hx hy tests value =
       step_passes (Converts targets a) (λ (v : Expansion). Then (Converts targets b) (Last v)) x answer hx
       (step_passes (Converts targets b) (Last x) y answer hy
-      (rest_of_product x y answer are.left (converts_expands targets a x are.left_value are.left hx) (converts_expands targets b y are.right_value are.right hy) tests value))
+      (rest_of_product x y answer (lies_kinds a.bases targets are.left) (converts_expands targets a x are.left_value (lies_kinds a.bases targets are.left) hx)
+      (converts_expands targets b y are.right_value (lies_kinds b.bases targets are.right) hy) tests value))
 
   -- the first operand is refused
   pub product_first : (r : Refusal) → OrMemory (Converts targets a) (Err r) → OrMemory (ProductOver targets a b) (Err r)
@@ -85,10 +83,10 @@ module _ (targets : List BasisId) (a b : Expansion) where
       step_passes (Converts targets a) (λ (v : Expansion). Then (Converts targets b) (Last v)) x (Err r) hx (step_refuses (Converts targets b) (Last x) r hy)
 
 -- what a value is converted to has no greater degree: so has the value that there is, and there is no other one
-converted_degree : (targets : List BasisId) (v w : Expansion) → IsValue v → map kind_of targets ≡ map kind_of v.bases → AreBuilt targets → degree_of_value v ≤ least_limit targets
+converted_degree : (targets : List BasisId) (v w : Expansion) → IsValue v → LieIn v.bases targets → AreBuilt targets → degree_of_value v ≤ least_limit targets
     → Converts targets v (Ok w) → degree_of_value w ≤ degree_of_value v
-converted_degree targets v w is kinds built within h =
-    let some = converts_some targets v is kinds built within in
+converted_degree targets v w is inside built within h =
+    let some = converts_some targets v is inside built within in
     some.holds w (converts_once targets v is some.answer (Ok w) some.allowed h)
 
 -- so the degrees of what both came to are within the limit of their bases
@@ -97,5 +95,5 @@ pub degrees_converted : (targets : List BasisId) (a b x y : Expansion) → AreTa
 degrees_converted targets a b x y are hx hy =
     let first = converted_degree targets a x are.left_value are.left are.built (omega (arith, are.within)) hx in
     let second = converted_degree targets b y are.right_value are.right are.built (omega (arith, are.within)) hy in
-    let over : x.bases ≡ targets = (converts_expands targets a x are.left_value are.left hx).over in
+    let over : x.bases ≡ targets = (converts_expands targets a x are.left_value (lies_kinds a.bases targets are.left) hx).over in
     subst (λ (bases : List BasisId). degree_of_value x + degree_of_value y ≤ least_limit bases) (sym over) (omega (arith, are.within, first, second))

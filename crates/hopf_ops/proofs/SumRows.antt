@@ -11,6 +11,7 @@ use Rattle.basis_routes.specs.Checks.{Passes}
 use Rattle.basis_routes.specs.Conversions.{BothConvert}
 use Rattle.basis_routes.specs.Joins.{joined}
 use Rattle.basis_routes.specs.Rows.{Answer, Row, Checked, Answers, Decides}
+use Rattle.basis_routes.proofs.ContainedBases.{lies_kinds}
 use Rattle.basis_routes.proofs.ConversionsExist.{IsConverted, both_convert_some}
 use Rattle.basis_routes.proofs.OnceRows.{IsOnce, checked_once, answers_once, both_convert_once}
 use Rattle.basis_routes.proofs.SomeRows.{ComesTo, Any, checked_some, answers_some}
@@ -88,5 +89,5 @@ sums_decide minus a b ha hb = record {
   kinds = λ v h.
       let degree = max (degree_of_value a) (degree_of_value b) in
       let pass = (checked_value (common_checks degree a b) (SumOver minus (joined a.bases b.bases) a b) v h).0 in
-      (targets_of degree a b ha hb pass).left ∙ sym (kinds-sum minus a b);
+      lies_kinds a.bases (joined a.bases b.bases) (targets_of degree a b ha hb pass).left ∙ sym (kinds-sum minus a b);
 }

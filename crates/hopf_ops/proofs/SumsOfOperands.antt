@@ -13,6 +13,7 @@ use Rattle.basis_routes.specs.Rows.{Answer, Row, Checked, Then, Answers, OrMemor
 use Rattle.hopf_ops.specs.Answers.{AreTargets}
 use Rattle.hopf_ops.specs.Operations.{sum_room, SumOver}
 use Rattle.hopf_ops.specs.ReadingOperations.{sum_or_difference}
+use Rattle.basis_routes.proofs.ContainedBases.{lies_kinds}
 use Rattle.basis_routes.proofs.ConvertedRows.{converts_expands}
 use Rattle.hopf_ops.proofs.ConvertedOperands.{sum_of_converted}
 use Rattle.hopf_ops.proofs.RowsInSteps.{step_passes, step_refuses, tests_row}
@@ -52,7 +53,7 @@ module _ (minus : Bool) (targets : List BasisId) (a b : Expansion) where
   sum_passes x y degree answer are hx hy tests value =
       step_passes (Converts targets a) (λ (v : Expansion). Then (Converts targets b) (Last v)) x answer hx
       (step_passes (Converts targets b) (Last x) y answer hy
-      (rest_of_sum x y answer (converts_expands targets a x are.left_value are.left hx) (converts_expands targets b y are.right_value are.right hy) tests value))
+      (rest_of_sum x y answer (converts_expands targets a x are.left_value (lies_kinds a.bases targets are.left) hx) (converts_expands targets b y are.right_value (lies_kinds b.bases targets are.right) hy) tests value))
 
   -- the first operand is refused
   pub sum_first : (r : Refusal) → OrMemory (Converts targets a) (Err r) → OrMemory (SumOver minus targets a b) (Err r)
@@ -65,4 +66,5 @@ module _ (minus : Bool) (targets : List BasisId) (a b : Expansion) where
 
 -- what both came to is over the same bases
 pub same_targets : (targets : List BasisId) (degree : ℕ) (a b x y : Expansion) → AreTargets targets degree a b → Converts targets a (Ok x) → Converts targets b (Ok y) → x.bases ≡ y.bases
-same_targets targets degree a b x y are hx hy = (converts_expands targets a x are.left_value are.left hx).over ∙ sym (converts_expands targets b y are.right_value are.right hy).over
+same_targets targets degree a b x y are hx hy =
+    (converts_expands targets a x are.left_value (lies_kinds a.bases targets are.left) hx).over ∙ sym (converts_expands targets b y are.right_value (lies_kinds b.bases targets are.right) hy).over

@@ -1,6 +1,5 @@
 -- Nothing here need be believed: from combinations to values, for the contracts of private functions.
-use Rattle.std.specs.Prelude.{◌≡◌, ℕ, ◌≤◌, Bool, true, false, List, ◌∷◌, ◌++◌, length, map, unwrap_or, Result, Ok, Err}
-use Rattle.realisations.specs.Bases.{kind_of}
+use Rattle.std.specs.Prelude.{◌≡◌, ℕ, ◌≤◌, Bool, true, false, List, ◌∷◌, ◌++◌, length, unwrap_or, Result, Ok, Err}
 use Rattle.realisations.specs.Codes.{Key}
 use Rattle.realisations.specs.Combinations.{Combination, HasKey}
 use Rattle.linear_combos.specs.Combos.{IsSum, IsDifference}
@@ -13,6 +12,7 @@ use Rattle.hopf_laws.specs.Values.{Expansion, IsValue, degree_of_value}
 use Rattle.basis_routes.specs.declared.checks.Check.TheVariants.{Joined}
 use Rattle.basis_routes.specs.Checks.{Passes}
 use Rattle.basis_routes.specs.JoinTable.{join_of}
+use Rattle.basis_routes.specs.Joins.{LieIn}
 use Rattle.basis_routes.specs.declared.refusal.Refusal.{Refusal}
 use Rattle.basis_routes.specs.declared.refusal.Refusal.TheVariants.{TooLarge as refused_too_large, Memory as refused_memory}
 
@@ -24,13 +24,13 @@ pub record IsOver (bases : List BasisId) (c : Combination) : Type 0 where
   pub indices : (key : Key) → HasKey c.terms key → AreIndices bases key
   pub degrees : (key : Key) → HasKey c.terms key → total_degree bases key ≤ least_limit bases
 
--- bases to which two operands, both values, may be brought: they are built, read at points of the kinds of both, and a degree is within their least limit
+-- bases to which two operands, both values, may be brought: they are built, both lie in their algebras, and a degree is within their least limit
 pub record AreTargets (targets : List BasisId) (degree : ℕ) (a b : Expansion) : Type 0 where
   pub left_value : IsValue a
   pub right_value : IsValue b
   pub built : AreBuilt targets
-  pub left : map kind_of targets ≡ map kind_of a.bases
-  pub right : map kind_of targets ≡ map kind_of b.bases
+  pub left : LieIn a.bases targets
+  pub right : LieIn b.bases targets
   pub within : degree ≤ least_limit targets
 
 -- component n of a value, counted from 0, and the next one have a join, which takes the place of both in these bases, and the degree is within their limit

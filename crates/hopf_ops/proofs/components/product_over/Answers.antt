@@ -1,23 +1,23 @@
-use Rattle.std.proofs.Common.{◌≡◌, ℕ, suc, ◌-◌, ◌≤◌, map, Ok, Err, sym, ◌∙◌, ap, subst, arith}
+use Rattle.std.proofs.Common.{◌≡◌, ℕ, suc, ◌-◌, ◌≤◌, Ok, Err, sym, ◌∙◌, ap, subst, arith}
 use Rattle.std.specs.Prelude.{IfOk}
 use Rattle.std.proofs.lemmas.Result.{err_from_is_err_and}
-use Rattle.realisations.specs.Bases.{kind_of}
 use Rattle.realisations.specs.Readings.{applied, mult}
 use Rattle.hopf_laws.specs.Bases.{AreBuilt, least_limit}
 use Rattle.hopf_laws.specs.Values.{Expansion, Expands, degree_of_value, reading_of}
 use Rattle.basis_routes.specs.Conversions.{Converts}
+use Rattle.basis_routes.specs.Joins.{LieIn}
 use Rattle.basis_routes.specs.Lists.{doubled, without}
 use Rattle.basis_routes.specs.Rows.{OrMemory}
-use Rattle.hopf_ops.proofs.NeighboursInSteps.{both_built, both_kinds, both_within, over_twice, both_there, neighbours_not_converted, neighbours_product}
+use Rattle.hopf_ops.proofs.NeighboursInSteps.{both_built, both_inside, both_within, over_twice, both_there, neighbours_not_converted, neighbours_product}
 use Rattle.hopf_ops.proofs.components.product_over.Goals as goal
 
 pub converted_operand-requires-clause-built : goal.converted_operand-requires-clause-built
 converted_operand-requires-clause-built c =
     subst (λ bs. AreBuilt bs) (sym c.doubled-targets.ensures) (both_built c.args.bases.now (c.args.component - 1) c.args.a.now c.requires.joined)
 
-pub converted_operand-requires-clause-kinds : goal.converted_operand-requires-clause-kinds
-converted_operand-requires-clause-kinds c =
-    ap (λ bs. map kind_of bs) c.doubled-targets.ensures ∙ both_kinds c.args.bases.now (c.args.component - 1) c.args.a.now c.requires.joined
+pub converted_operand-requires-clause-inside : goal.converted_operand-requires-clause-inside
+converted_operand-requires-clause-inside c =
+    subst (λ bs. LieIn c.args.a.now.bases bs) (sym c.doubled-targets.ensures) (both_inside c.args.bases.now (c.args.component - 1) c.args.a.now c.requires.joined)
 
 pub converted_operand-requires-clause-degree : goal.converted_operand-requires-clause-degree
 converted_operand-requires-clause-degree c =

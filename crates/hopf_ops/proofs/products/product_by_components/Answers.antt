@@ -8,7 +8,7 @@ use Rattle.basis_routes.specs.Joins.{joined}
 use Rattle.basis_routes.specs.Rows.{OrMemory}
 use Rattle.basis_routes.proofs.Degrees.{degree-small}
 use Rattle.hopf_ops.specs.Operations.{common_checks, ProductOver}
-use Rattle.hopf_ops.proofs.ProductsOfOperands.{length-kinds}
+use Rattle.basis_routes.proofs.ContainedBases.{lies_length}
 use Rattle.hopf_ops.proofs.RowsInSteps.{checks_pass, checks_refuse}
 use Rattle.hopf_ops.proofs.products.product_by_components.Goals as goal
 
@@ -28,7 +28,7 @@ returns-in_err-targets c =
 
 pub product_over-requires-clause-some : goal.product_over-requires-clause-some
 product_over-requires-clause-some c =
-    omega (arith, length-kinds c.in_ok-targets.targets c.args.a.now.bases c.in_ok-targets.ensures.targets.left, c.requires)
+    omega (arith, lies_length c.args.a.now.bases c.in_ok-targets.targets c.in_ok-targets.ensures.targets.left, c.requires)
 
 -- they pass, and the rest is the row
 pub returns : goal.returns

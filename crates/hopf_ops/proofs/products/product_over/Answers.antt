@@ -4,6 +4,7 @@ use Rattle.std.proofs.lemmas.Result.{err_from_is_err_and}
 use Rattle.basis_names.specs.declared.bases.BasisId.{BasisId}
 use Rattle.hopf_laws.specs.Values.{Expansion, degree_of_value}
 use Rattle.basis_routes.specs.Conversions.{Converts}
+use Rattle.basis_routes.proofs.ContainedBases.{lies_kinds}
 use Rattle.basis_routes.proofs.ConvertedRows.{converts_expands}
 use Rattle.hopf_ops.proofs.SumsOfOperands.{same_targets}
 use Rattle.hopf_ops.proofs.ProductsOfOperands.{product_passes, product_first, product_second, degrees_converted}
@@ -30,7 +31,7 @@ product_of_same-requires-clause-some c =
     let y = c.made_or_given-2.result.now in
     let hx : Converts targets a (Ok x) = subst (λ (v : Expansion). Converts targets a (Ok v)) (sym c.made_or_given.ensures) c.in_ok-x.ensures.value in
     let hy : Converts targets b (Ok y) = subst (λ (v : Expansion). Converts targets b (Ok v)) (sym c.made_or_given-2.ensures) c.in_ok-y.ensures.value in
-    subst (λ (bases : List BasisId). 1 ≤ length bases) (sym (converts_expands targets a x c.requires.targets.left_value c.requires.targets.left hx).over) c.requires.some
+    subst (λ (bases : List BasisId). 1 ≤ length bases) (sym (converts_expands targets a x c.requires.targets.left_value (lies_kinds a.bases targets c.requires.targets.left) hx).over) c.requires.some
 
 -- conversions keep degrees
 pub product_of_same-requires-clause-degree : goal.product_of_same-requires-clause-degree

@@ -1,0 +1,2 @@
+pub mod ChangesBetween
+pub mod ChangesExist
