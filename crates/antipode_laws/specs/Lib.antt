@@ -1,0 +1,4 @@
+pub mod KnownValues
+pub mod Laws
+pub mod Recursion
+pub mod Units
