@@ -31,17 +31,17 @@ way_exists from over to there growth kinds limits five first rest code h =
     (d, changed_answer over to (min (limit_for over) (limit_for to)) growth there n (element from code) c is five (sym kinds) d lifted)
 
 -- what is so of the built bases is so of each basis that is built
-of_built : (P : BasisId → Type 0) → P QsymM → P QsymF → P NcsfS → P NcsfL → P NcsfR → P FqsymF → P FqsymG → P WqsymM → P PbtP → (basis : BasisId) → IsTrue (is_built basis) → P basis
-of_built P m f s l r f' g w p QsymM built = m
-of_built P m f s l r f' g w p QsymF built = f
-of_built P m f s l r f' g w p NcsfS built = s
-of_built P m f s l r f' g w p NcsfL built = l
-of_built P m f s l r f' g w p NcsfR built = r
-of_built P m f s l r f' g w p FqsymF built = f'
-of_built P m f s l r f' g w p FqsymG built = g
-of_built P m f s l r f' g w p WqsymM built = w
-of_built P m f s l r f' g w p FsymS built = absurd (false≢true built)
-of_built P m f s l r f' g w p PbtP built = p
+of_built : (P : BasisId → Type 0) → P QsymM → P QsymF → P NcsfS → P NcsfL → P NcsfR → P FqsymF → P FqsymG → P WqsymM → P FsymS → P PbtP → (basis : BasisId) → IsTrue (is_built basis) → P basis
+of_built P m f s l r f' g w t p QsymM built = m
+of_built P m f s l r f' g w t p QsymF built = f
+of_built P m f s l r f' g w t p NcsfS built = s
+of_built P m f s l r f' g w t p NcsfL built = l
+of_built P m f s l r f' g w t p NcsfR built = r
+of_built P m f s l r f' g w t p FqsymF built = f'
+of_built P m f s l r f' g w t p FqsymG built = g
+of_built P m f s l r f' g w t p WqsymM built = w
+of_built P m f s l r f' g w t p FsymS built = t
+of_built P m f s l r f' g w t p PbtP built = p
 
 -- the change from one basis to another
 abbrev Changes : BasisId → BasisId → Type 0
@@ -73,6 +73,7 @@ from_monomial =
     (outside QsymM FqsymF refl)
     (outside QsymM FqsymG refl)
     (outside QsymM WqsymM refl)
+    (outside QsymM FsymS refl)
     (outside QsymM PbtP refl)
 
 from_fundamental : (to : BasisId) → IsTrue (is_built to) → Changes QsymF to
@@ -86,6 +87,7 @@ from_fundamental =
     (outside QsymF FqsymF refl)
     (outside QsymF FqsymG refl)
     (outside QsymF WqsymM refl)
+    (outside QsymF FsymS refl)
     (outside QsymF PbtP refl)
 
 from_complete : (to : BasisId) → IsTrue (is_built to) → Changes NcsfS to
@@ -99,6 +101,7 @@ from_complete =
     (by_ribbons NcsfS FqsymF 3 refl (omega arith) (omega arith) in_ncsf.complete_in_ribbon included.ribbons_in_fqsym_f)
     (by_ribbons NcsfS FqsymG 3 refl (omega arith) (omega arith) in_ncsf.complete_in_ribbon included.ribbons_in_fqsym_g)
     (by_ribbons NcsfS WqsymM 3 refl (omega arith) (omega arith) in_ncsf.complete_in_ribbon included.ribbons_in_wqsym)
+    (by_ribbons NcsfS FsymS 3 refl (omega arith) (omega arith) in_ncsf.complete_in_ribbon included.ribbons_in_fsym)
     (by_ribbons NcsfS PbtP 3 refl (omega arith) (omega arith) in_ncsf.complete_in_ribbon included.ribbons_in_pbt)
 
 from_elementary : (to : BasisId) → IsTrue (is_built to) → Changes NcsfL to
@@ -112,6 +115,7 @@ from_elementary =
     (by_ribbons NcsfL FqsymF 3 refl (omega arith) (omega arith) in_ncsf.elementary_in_ribbon included.ribbons_in_fqsym_f)
     (by_ribbons NcsfL FqsymG 3 refl (omega arith) (omega arith) in_ncsf.elementary_in_ribbon included.ribbons_in_fqsym_g)
     (by_ribbons NcsfL WqsymM 3 refl (omega arith) (omega arith) in_ncsf.elementary_in_ribbon included.ribbons_in_wqsym)
+    (by_ribbons NcsfL FsymS 3 refl (omega arith) (omega arith) in_ncsf.elementary_in_ribbon included.ribbons_in_fsym)
     (by_ribbons NcsfL PbtP 3 refl (omega arith) (omega arith) in_ncsf.elementary_in_ribbon included.ribbons_in_pbt)
 
 from_ribbon : (to : BasisId) → IsTrue (is_built to) → Changes NcsfR to
@@ -125,6 +129,7 @@ from_ribbon =
     (by_rule NcsfR FqsymF 3 included.ribbons_in_fqsym_f)
     (by_rule NcsfR FqsymG 3 included.ribbons_in_fqsym_g)
     (by_rule NcsfR WqsymM 3 included.ribbons_in_wqsym)
+    (by_rule NcsfR FsymS 3 included.ribbons_in_fsym)
     (by_rule NcsfR PbtP 3 included.ribbons_in_pbt)
 
 from_permutation : (to : BasisId) → IsTrue (is_built to) → Changes FqsymF to
@@ -138,6 +143,7 @@ from_permutation =
     (itself FqsymF)
     (by_rule FqsymF FqsymG 0 in_fqsym.fundamental_in_dual)
     (by_rule FqsymF WqsymM 3 included.fqsym_f_in_wqsym)
+    (outside FqsymF FsymS refl)
     (outside FqsymF PbtP refl)
 
 from_dual : (to : BasisId) → IsTrue (is_built to) → Changes FqsymG to
@@ -151,6 +157,7 @@ from_dual =
     (by_rule FqsymG FqsymF 0 in_fqsym.dual_in_fundamental)
     (itself FqsymG)
     (by_rule FqsymG WqsymM 3 included.fqsym_g_in_wqsym)
+    (outside FqsymG FsymS refl)
     (outside FqsymG PbtP refl)
 
 from_packed : (to : BasisId) → IsTrue (is_built to) → Changes WqsymM to
@@ -164,7 +171,22 @@ from_packed =
     (outside WqsymM FqsymF refl)
     (outside WqsymM FqsymG refl)
     (itself WqsymM)
+    (outside WqsymM FsymS refl)
     (outside WqsymM PbtP refl)
+
+from_tableau : (to : BasisId) → IsTrue (is_built to) → Changes FsymS to
+from_tableau =
+    of_built (Changes FsymS)
+    (outside FsymS QsymM refl)
+    (outside FsymS QsymF refl)
+    (outside FsymS NcsfS refl)
+    (outside FsymS NcsfL refl)
+    (outside FsymS NcsfR refl)
+    (by_rule FsymS FqsymF 3 included.tableaux_in_fqsym_f)
+    (by_rule FsymS FqsymG 3 included.tableaux_in_fqsym_g)
+    (by_rule FsymS WqsymM 3 included.tableaux_in_wqsym)
+    (itself FsymS)
+    (outside FsymS PbtP refl)
 
 from_tree : (to : BasisId) → IsTrue (is_built to) → Changes PbtP to
 from_tree =
@@ -177,10 +199,11 @@ from_tree =
     (by_rule PbtP FqsymF 3 included.trees_in_fqsym_f)
     (by_rule PbtP FqsymG 3 included.trees_in_fqsym_g)
     (by_rule PbtP WqsymM 3 included.trees_in_wqsym)
+    (outside PbtP FsymS refl)
     (itself PbtP)
 
 -- all changes
 pub all_changes_exist : ChangesExistLaw
 all_changes_exist from to built built' =
     of_built (λ basis. (b : BasisId) → IsTrue (is_built b) → Changes basis b)
-    from_monomial from_fundamental from_complete from_elementary from_ribbon from_permutation from_dual from_packed from_tree from built to built'
+    from_monomial from_fundamental from_complete from_elementary from_ribbon from_permutation from_dual from_packed from_tableau from_tree from built to built'

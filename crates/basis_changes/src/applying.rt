@@ -61,7 +61,7 @@ pub(crate) fn by_inclusion<A: InclusionIn<B>, B: Space>(
     requires can { CanBeChanged from to (component - 1) combo.now }
     ensures { IfOk result (IsChanged from to (component - 1) combo.now) }
 {
-    let rule: ByInclusion<A, B> = ByInclusion::new();
+    let rule: ByInclusion<A, B> = ByInclusion::new(alloc);
     by_rule::<A, B, ByInclusion<A, B>>(alloc, combo, component, from, to, rule)
 }
 
@@ -101,6 +101,6 @@ pub(crate) fn by_change_and_inclusion<A: Change<B>, B: InclusionIn<C>, C: Space>
     requires can { CanBeChanged from to (component - 1) combo.now }
     ensures { IfOk result (IsChanged from to (component - 1) combo.now) }
 {
-    let rule: ByWayOf<A, B, C, ByInclusion<B, C>> = ByWayOf::new(ByInclusion::new());
+    let rule: ByWayOf<A, B, C, ByInclusion<B, C>> = ByWayOf::new(ByInclusion::new(alloc));
     by_rule::<A, C, ByWayOf<A, B, C, ByInclusion<B, C>>>(alloc, combo, component, from, to, rule)
 }

@@ -2,7 +2,7 @@
 ghost use Rattle.std.specs.Prelude.{◌≡◌, ◌≢◌, ◌≤◌, ◌-◌, IsTrue, IfOk};
 ghost use Rattle.basis_names.specs.Bases.{algebra_of};
 ghost use Rattle.basis_names.specs.declared.bases.AlgebraId.TheVariants.{Qsym, Ncsf, Fqsym};
-ghost use Rattle.basis_names.specs.declared.bases.BasisId.TheVariants.{NcsfS as id_s, NcsfL as id_l, NcsfR as id_r, PbtP as id_p};
+ghost use Rattle.basis_names.specs.declared.bases.BasisId.TheVariants.{NcsfS as id_s, NcsfL as id_l, NcsfR as id_r, FsymS as id_t, PbtP as id_p};
 ghost use Rattle.built_bases.specs.Table.{is_built};
 ghost use Rattle.realisations.specs.Bases.{lies_in};
 ghost use Rattle.basis_changes.specs.Changes.{CanBeChanged, IsChanged};
@@ -10,6 +10,7 @@ ghost use Rattle.basis_changes.specs.Changes.{CanBeChanged, IsChanged};
 use crate::applying::{by_change, by_change_and_inclusion, by_inclusion, by_two_changes};
 use basis_names::BasisId;
 use fqsym::{FqsymF, FqsymG};
+use fsym::FsymS;
 use hopf_num::OutOfMemory;
 use index_rules::Change;
 use linear_combos::Combo;
@@ -67,6 +68,9 @@ fn to_words<A: Change<NcsfR>>(
     match to {
         BasisId::PbtP => {
             by_change_and_inclusion::<A, NcsfR, PbtP>(alloc, combo, component, from, to)
+        }
+        BasisId::FsymS => {
+            by_change_and_inclusion::<A, NcsfR, FsymS>(alloc, combo, component, from, to)
         }
         BasisId::FqsymF => {
             by_change_and_inclusion::<A, NcsfR, FqsymF>(alloc, combo, component, from, to)
@@ -151,6 +155,7 @@ fn from_ribbon(
         BasisId::NcsfS => by_change::<NcsfR, NcsfS>(alloc, combo, component, from, to),
         BasisId::NcsfL => by_change::<NcsfR, NcsfL>(alloc, combo, component, from, to),
         BasisId::PbtP => by_inclusion::<NcsfR, PbtP>(alloc, combo, component, from, to),
+        BasisId::FsymS => by_inclusion::<NcsfR, FsymS>(alloc, combo, component, from, to),
         BasisId::FqsymF => by_inclusion::<NcsfR, FqsymF>(alloc, combo, component, from, to),
         BasisId::FqsymG => by_inclusion::<NcsfR, FqsymG>(alloc, combo, component, from, to),
         BasisId::WqsymM => by_inclusion::<NcsfR, WqsymM>(alloc, combo, component, from, to),
@@ -178,6 +183,30 @@ fn from_tree(
         BasisId::FqsymF => by_inclusion::<PbtP, FqsymF>(alloc, combo, component, from, to),
         BasisId::FqsymG => by_inclusion::<PbtP, FqsymG>(alloc, combo, component, from, to),
         BasisId::WqsymM => by_inclusion::<PbtP, WqsymM>(alloc, combo, component, from, to),
+        _ => unreachable!(),
+    }
+}
+
+// From the tableaux.
+fn from_tableau(
+    alloc: Global,
+    combo: &Combo,
+    component: u32,
+    from: BasisId,
+    to: BasisId,
+) -> Result<Combo, OutOfMemory>
+    requires first { 1 ≤ component }
+    requires from { from ≡ id_t }
+    requires to { IsTrue (is_built to) }
+    requires inside { IsTrue (lies_in (algebra_of from) (algebra_of to)) }
+    requires different { from ≢ to }
+    requires can { CanBeChanged from to (component - 1) combo.now }
+    ensures { IfOk result (IsChanged from to (component - 1) combo.now) }
+{
+    match to {
+        BasisId::FqsymF => by_inclusion::<FsymS, FqsymF>(alloc, combo, component, from, to),
+        BasisId::FqsymG => by_inclusion::<FsymS, FqsymG>(alloc, combo, component, from, to),
+        BasisId::WqsymM => by_inclusion::<FsymS, WqsymM>(alloc, combo, component, from, to),
         _ => unreachable!(),
     }
 }
@@ -220,8 +249,8 @@ fn from_fqsym(
 ///
 /// Want of memory is the only error. The complete and the elementary functions change by way of the ribbons,
 /// term by term, and each other change is one rule. The cost is that of the rules at each term, where an
-/// inclusion goes through all indices of the degree in the finer basis, and a sort of the terms of their
-/// answers.
+/// inclusion lists and sorts all indices of the degree in the finer basis once for terms in a row of one
+/// degree, and a sort of the terms of their answers.
 pub fn change_between(
     alloc: Global,
     combo: &Combo,
@@ -244,6 +273,7 @@ pub fn change_between(
         BasisId::NcsfR => from_ribbon(alloc, combo, component, from, to),
         BasisId::FqsymF | BasisId::FqsymG => from_fqsym(alloc, combo, component, from, to),
         BasisId::PbtP => from_tree(alloc, combo, component, from, to),
+        BasisId::FsymS => from_tableau(alloc, combo, component, from, to),
         _ => unreachable!(),
     }
 }

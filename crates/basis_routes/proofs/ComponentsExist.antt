@@ -1,8 +1,10 @@
--- Operations on components have values: coproducts, products of neighbours, and counits.
+-- Operations on components have values: coproducts, antipodes, commuting images, products of neighbours, and counits.
 use Rattle.std.proofs.Common.{◌≡◌, ℕ, zero, suc, ◌+◌, ◌-◌, ◌^◌, ◌<◌, ◌≤◌, List, [], ◌∷◌, ◌++◌, length, map, inl, inr, refl, sym, ap, subst, arith, unsigned_abs, add-one}
 use Rattle.std.proofs.lemmas.Bool.{cases_eq}
 use Rattle.std.specs.Prelude.{All}
 use Rattle.basis_names.specs.declared.bases.BasisId.{BasisId}
+use Rattle.basis_names.specs.declared.bases.BasisId.TheVariants.{QsymM}
+use Rattle.commuting_images.specs.Images.{image_facts}
 use Rattle.hopf_laws.specs.Values.{Expansion, IsValue, Expands, reading_of}
 use Rattle.change_laws.specs.Lifts.{code_at, replaced}
 use Rattle.index_rules.proofs.LiftsExist.{lifts_exist, products_exist}
@@ -14,18 +16,20 @@ use Rattle.linear_combos.proofs.Weights.{norm-part}
 use Rattle.realisations.specs.Bases.{kind_of}
 use Rattle.realisations.specs.Codes.{Key}
 use Rattle.realisations.specs.Combinations.{Combination, AreTerms, IsCanonical, IsLowest, norm_of, term_at}
-use Rattle.realisations.specs.Readings.{applied, coproduct, counit, mult, kinds_after_at}
+use Rattle.realisations.specs.Readings.{applied, antipode, commute, coproduct, counit, mult, kinds_after_at}
 use Rattle.basis_routes.specs.Checks.{Passes}
 use Rattle.basis_routes.specs.Conversions.{linear_checks}
 use Rattle.basis_routes.specs.KeptTerms.{AreKept, IsKept}
-use Rattle.basis_routes.specs.Lists.{doubled, without}
+use Rattle.basis_routes.specs.Lists.{doubled, replaced as with_others, without}
+use Rattle.basis_routes.proofs.AntipodeValues.{antipode_facts, antipode_lifted, has_antipode}
 use Rattle.basis_routes.proofs.BasesAround.{basis_there, built-here}
 use Rattle.basis_routes.proofs.CoproductValues.{has_coproduct, coproduct_facts, coproduct_lifted}
 use Rattle.basis_routes.proofs.CounitValues.{counit_expands}
+use Rattle.basis_routes.proofs.ImageValues.{has_image, image_lifted}
 use Rattle.basis_routes.proofs.KeptTerms.{none_kept, term_left_out, term_room, term_kept, kept_over, empty_code}
 use Rattle.basis_routes.proofs.LiftedValues.{over}
 use Rattle.basis_routes.proofs.ProductValues.{can_multiply, products_expand}
-use Rattle.basis_routes.proofs.RulesExist.{has_products, has_coproducts}
+use Rattle.basis_routes.proofs.RulesExist.{has_products, has_antipodes, has_coproducts, has_images}
 
 -- the coproduct of component n, where there is room for one component more, and the linear rule holds
 pub coproduct_exists : (n : ℕ) (v : Expansion) → n < length v.bases → length v.bases ≤ 2 → IsValue v → All Passes (linear_checks v)
@@ -48,6 +52,37 @@ pub kinds-without : (n : ℕ) (bases : List BasisId) → n < length bases → ma
 kinds-without n [] lt = absurd (omega (arith, lt))
 kinds-without zero (b ∷ bases) lt = refl
 kinds-without (suc n) (b ∷ bases) lt = ap (λ ks. kind_of b ∷ ks) (kinds-without n bases (omega (arith, lt)))
+
+-- the antipode of component n, where the linear rule holds
+pub antipode_exists : (n : ℕ) (v : Expansion) → n < length v.bases → IsValue v → All Passes (linear_checks v)
+    → (w : Expansion) × Expands v.bases (applied antipode n (reading_of v)) w
+antipode_exists n v lt is room =
+    let (b, at) = basis_there n v.bases lt in
+    let has = has_antipode n v.bases b lt at in
+    let (c, lift) = lifts_exist (antipode_facts b) (has_antipodes b (has.built v.combination is)) n v.combination is.canonical (has.can v.combination is room) in
+    (over v.bases c, antipode_lifted n v b c v.combination lt at is refl lift)
+
+-- its kinds
+pub kinds-antipode : (n : ℕ) (bases : List BasisId) → n < length bases → map kind_of bases ≡ kinds_after_at n antipode (map kind_of bases)
+kinds-antipode n [] lt = absurd (omega (arith, lt))
+kinds-antipode zero (b ∷ bases) lt = refl
+kinds-antipode (suc n) (b ∷ bases) lt = ap (λ ks. kind_of b ∷ ks) (kinds-antipode n bases (omega (arith, lt)))
+
+-- the commuting image of component n, where the linear rule holds
+pub image_exists : (n : ℕ) (v : Expansion) → n < length v.bases → IsValue v → All Passes (linear_checks v)
+    → (w : Expansion) × Expands (with_others n (QsymM ∷ []) v.bases) (applied commute n (reading_of v)) w
+image_exists n v lt is room =
+    let (b, at) = basis_there n v.bases lt in
+    let has = has_image n v.bases b lt at in
+    let images = has_images b (has.built v.combination is) in
+    let (c, lift) = lifts_exist (image_facts b images.growth) images.images n v.combination is.canonical (has.can v.combination is room images.growth) in
+    (over (with_others n (QsymM ∷ []) v.bases) c, image_lifted n v b c v.combination lt at is refl (images.growth, lift))
+
+-- its kinds
+pub kinds-commuted : (n : ℕ) (bases : List BasisId) → n < length bases → map kind_of (with_others n (QsymM ∷ []) bases) ≡ kinds_after_at n commute (map kind_of bases)
+kinds-commuted n [] lt = absurd (omega (arith, lt))
+kinds-commuted zero (b ∷ bases) lt = refl
+kinds-commuted (suc n) (b ∷ bases) lt = ap (λ ks. kind_of b ∷ ks) (kinds-commuted n bases (omega (arith, lt)))
 
 -- the product of two neighbours over one basis, where the linear rule holds
 pub product_exists : (before after : List BasisId) (basis : BasisId) (v : Expansion) → IsValue v → v.bases ≡ before ++ basis ∷ basis ∷ after → All Passes (linear_checks v)

@@ -7,7 +7,7 @@ use Rattle.realisations.specs.Readings.{Reading, kinds_of, denominator}
 use Rattle.hopf_laws.specs.Values.{Expansion, Expands}
 use Rattle.basis_routes.specs.declared.checks.Check.{Check}
 use Rattle.basis_routes.specs.Checks.{Passes, IsCheck}
-use Rattle.basis_routes.specs.Rows.{Answers, Checked, Decides}
+use Rattle.basis_routes.specs.Rows.{Row, Answers, Checked, Decides}
 use Rattle.basis_routes.proofs.OnceRows.{checked_once_where, answers_once}
 use Rattle.basis_routes.proofs.SomeRows.{Any, checked_some, answers_some}
 use Rattle.basis_routes.proofs.ValueRows.{checked_value, answers_value}
@@ -38,4 +38,15 @@ answers_decide bases reading expanded =
       some = (row.answer, row.allowed);
       reads = λ v h. answers_value bases reading v h;
       kinds = λ v h. expanded.kinds;
+    }
+
+-- checks, and then a row that decides where they pass
+pub checked_decide : (checks : List Check) (Rest : Row) (bases : List BasisId) (reading : Reading) → All IsCheck checks → (All Passes checks → Decides Rest bases reading) → Decides (Checked checks Rest) bases reading
+checked_decide checks Rest bases reading are decides =
+    let row = checked_some checks Rest Any are (λ pass. record { answer = (decides pass).some.0; allowed = (decides pass).some.1; holds = λ v is. tt }) in
+    record {
+      once = checked_once_where checks Rest (λ pass. (decides pass).once);
+      some = (row.answer, row.allowed);
+      reads = λ v h. let (pass, rest) = checked_value checks Rest v h in (decides pass).reads v rest;
+      kinds = λ v h. let (pass, rest) = checked_value checks Rest v h in (decides pass).kinds v rest;
     }

@@ -1,3 +1,4 @@
+pub mod AntipodeValues
 pub mod BasesAround
 pub mod ChangedValues
 pub mod ComponentsExist
@@ -13,6 +14,8 @@ pub mod DecidedRows
 pub mod Degrees
 pub mod EqualBases
 pub mod FailingChecks
+pub mod ImageValues
+pub mod ImagesOfMonomials
 pub mod JoinedKinds
 pub mod KeptTerms
 pub mod LiftedValues

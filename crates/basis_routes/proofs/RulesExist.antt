@@ -7,7 +7,12 @@ use Rattle.index_rules.specs.Spaces.{limit_for}
 use Rattle.realisations.specs.Answers.{IsAnswer}
 use Rattle.realisations.specs.Combinations.{Combination}
 use Rattle.realisations.specs.Indices.{IsIndex, degree_of}
-use Rattle.realisations.specs.Readings.{coproduct, element, product}
+use Rattle.realisations.specs.Readings.{antipode, coproduct, element, product}
+use Rattle.antipodes.proofs.Antipodes.{antipodes_exist}
+use Rattle.commuting_images.specs.Images.{HasImages}
+use Rattle.commuting_images.proofs.ImagesExist.{images_exist}
+use Rattle.fsym.proofs.Coproducts.{tableau_coproducts_exist}
+use Rattle.fsym.proofs.Products.{tableau_products_exist}
 use Rattle.fqsym.proofs.RulesExist.{all_coproducts_exist as fqsym_coproducts_exist, all_products_exist as fqsym_products_exist}
 use Rattle.ncsf.proofs.RulesExist.{all_coproducts_exist as ncsf_coproducts_exist, all_products_exist as ncsf_products_exist}
 use Rattle.pbt.proofs.Coproducts.{tree_coproducts_exist}
@@ -29,7 +34,7 @@ has_products NcsfR built = (1, ncsf_products_exist.ribbon)
 has_products FqsymF built = (1, fqsym_products_exist.fundamental)
 has_products FqsymG built = (1, fqsym_products_exist.dual)
 has_products WqsymM built = (2, monomial_products)
-has_products FsymS built = absurd (cc)
+has_products FsymS built = (3, tableau_products_exist)
 has_products PbtP built = (1, tree_products_exist)
 
 -- and coproducts
@@ -42,8 +47,34 @@ has_coproducts NcsfR built = (2, ncsf_coproducts_exist.ribbon)
 has_coproducts FqsymF built = (1, fqsym_coproducts_exist.fundamental)
 has_coproducts FqsymG built = (1, fqsym_coproducts_exist.dual)
 has_coproducts WqsymM built = (1, monomial_coproducts)
-has_coproducts FsymS built = absurd (cc)
+has_coproducts FsymS built = (4, tableau_coproducts_exist)
 has_coproducts PbtP built = (1, tree_coproducts_exist)
+
+-- and commuting images
+pub has_images : (basis : BasisId) → IsTrue (is_built basis) → HasImages basis
+has_images QsymM built = images_exist.qsym_m
+has_images QsymF built = images_exist.qsym_f
+has_images NcsfS built = images_exist.ncsf_s
+has_images NcsfL built = images_exist.ncsf_l
+has_images NcsfR built = images_exist.ncsf_r
+has_images FqsymF built = images_exist.fqsym_f
+has_images FqsymG built = images_exist.fqsym_g
+has_images WqsymM built = images_exist.wqsym_m
+has_images FsymS built = images_exist.fsym_s
+has_images PbtP built = images_exist.pbt_p
+
+-- and antipodes
+pub has_antipodes : (basis : BasisId) → IsTrue (is_built basis) → HasAnswers (operation_facts antipode basis (basis ∷ []) (limit_for basis) 5)
+has_antipodes QsymM built = antipodes_exist.qsym_monomial
+has_antipodes QsymF built = antipodes_exist.qsym_fundamental
+has_antipodes NcsfS built = antipodes_exist.complete
+has_antipodes NcsfL built = antipodes_exist.elementary
+has_antipodes NcsfR built = antipodes_exist.ribbons
+has_antipodes FqsymF built = antipodes_exist.fqsym_fundamental
+has_antipodes FqsymG built = antipodes_exist.fqsym_dual
+has_antipodes WqsymM built = antipodes_exist.wqsym_monomial
+has_antipodes FsymS built = antipodes_exist.tableaux
+has_antipodes PbtP built = antipodes_exist.trees
 
 -- two elements of a built basis whose degrees add to at most the limit have a product
 pub elements_product_exists : (basis : BasisId) (x y : List ℕ) → IsTrue (is_built basis) → IsIndex basis x → IsIndex basis y

@@ -1,15 +1,17 @@
 //! Operations on one component of a value, and on two neighbours.
 ghost use Rattle.std.specs.Prelude.{◌≡◌, ◌<◌, ◌+◌, ◌-◌, ◌≤◌, [], ◌∷◌, ℕ, IsTrue, All, length, IfOk, OnOk};
 ghost use Rattle.realisations.specs.Combinations.{IsCanonical};
-ghost use Rattle.realisations.specs.Readings.{applied, coproduct, counit, mult};
+ghost use Rattle.realisations.specs.Readings.{antipode, applied, commute, coproduct, counit, mult};
+ghost use Rattle.basis_names.specs.declared.bases.BasisId.TheVariants.{QsymM};
 ghost use Rattle.hopf_laws.specs.Values.{Expands, reading_of};
 ghost use Rattle.basis_routes.specs.Checks.{Passes};
 ghost use Rattle.basis_routes.specs.Conversions.{linear_checks};
 ghost use Rattle.basis_routes.specs.KeptTerms.{AreKept, IsKept, IsKeptWhole};
-ghost use Rattle.basis_routes.specs.Lists.{doubled, without};
+ghost use Rattle.basis_routes.specs.Lists.{doubled, replaced as with_others, without};
 
 use crate::Value;
-use crate::lifts::{coproduct_over, product_over};
+use crate::lifts::{antipode_over, coproduct_over, image_over, product_over};
+use hopf_laws::BasisId;
 use hopf_num::OutOfMemory;
 use index_rules::replaced;
 use linear_combos::{Combo, ComboBuilder, Key};
@@ -27,6 +29,37 @@ pub fn coproduct_at(alloc: Global, value: &Value, component: u32) -> Result<Valu
     let basis = value.basis(component);
     let combo = coproduct_over(alloc, value.combo(), component, basis)?;
     Ok(Value::over(value.bases().doubled(component), combo))
+}
+
+/// The value with the antipode of a component, counted from 1, in its place, over the same bases. Want of
+/// memory is the only error. The cost is that of the antipodes of its codes, by the recursion over the
+/// coproduct, once for each index that it meets, and of sorting their terms.
+pub fn antipode_at(alloc: Global, value: &Value, component: u32) -> Result<Value, OutOfMemory>
+    requires first { 1 ≤ component }
+    requires last { component ≤ length value.now.bases }
+    requires room { All Passes (linear_checks value.now) }
+    ensures { IfOk result (Expands value.now.bases (applied antipode (component - 1) (reading_of value.now))) }
+{
+    let basis = value.basis(component);
+    let combo = antipode_over(alloc, value.combo(), component, basis)?;
+    Ok(Value::over(value.bases().copy(), combo))
+}
+
+/// The value with the commuting image of a component, counted from 1, in its place, over `QSym.M`. Want of
+/// memory is the only error. The cost is that of the images of its codes, and of sorting their terms.
+pub fn commuting_image_at(
+    alloc: Global,
+    value: &Value,
+    component: u32,
+) -> Result<Value, OutOfMemory>
+    requires first { 1 ≤ component }
+    requires last { component ≤ length value.now.bases }
+    requires room { All Passes (linear_checks value.now) }
+    ensures { IfOk result (Expands (with_others (component - 1) (QsymM ∷ []) value.now.bases) (applied commute (component - 1) (reading_of value.now))) }
+{
+    let basis = value.basis(component);
+    let combo = image_over(alloc, value.combo(), component, basis)?;
+    Ok(Value::over(value.bases().replaced(component, BasisId::QsymM), combo))
 }
 
 // Adds the term at a place without the code of a component, where this is empty.

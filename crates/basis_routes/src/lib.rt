@@ -16,12 +16,12 @@ mod value;
 
 pub use bases::Bases;
 pub use checks::Check;
-pub use components::{coproduct_at, counit_at, product_at};
+pub use components::{antipode_at, commuting_image_at, coproduct_at, counit_at, product_at};
 pub use conversions::{convert, converted, converted_operand};
 pub use joins::join;
 pub use laws::conversion_law;
 pub use place::Place;
 pub use places::{component_of, doubled_component_of, first_neighbour_of};
 pub use refusal::Refusal;
-pub use rules::{coproduct_of, is_index, list_of, product_of};
+pub use rules::{antipode_of, coproduct_of, is_index, list_of, product_of};
 pub use value::Value;

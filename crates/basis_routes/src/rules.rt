@@ -4,12 +4,14 @@ ghost use Rattle.realisations.specs.Answers.{IsAnswer};
 ghost use Rattle.realisations.specs.Indices.{IsIndex, degree_of};
 ghost use Rattle.linear_combos.specs.CodeLists.{ListsIndices};
 ghost use Rattle.realisations.specs.Bases.{index_kind_of};
-ghost use Rattle.realisations.specs.Readings.{applied, coproduct, element, product};
+ghost use Rattle.realisations.specs.Readings.{antipode as of_antipode, applied, coproduct, element, product};
 ghost use Rattle.basis_names.specs.Bases.{algebra_of, limit_of};
 ghost use Rattle.built_bases.specs.Table.{is_built};
 ghost use Rattle.basis_routes.specs.Rules.{IsIndexWithin};
 
+use antipodes::{Memo, antipode};
 use fqsym::{FqsymF, FqsymG};
+use fsym::FsymS;
 use hopf_laws::BasisId;
 use hopf_num::OutOfMemory;
 use index_rules::{Algebra, Coalgebra, Space};
@@ -46,7 +48,7 @@ pub fn is_index(basis: BasisId, code: &Code) -> bool
         BasisId::FqsymF => FqsymF::is_index(code),
         BasisId::FqsymG => FqsymG::is_index(code),
         BasisId::WqsymM => WqsymM::is_index(code),
-        BasisId::FsymS => false,
+        BasisId::FsymS => FsymS::is_index(code),
         BasisId::PbtP => PbtP::is_index(code),
     }
 }
@@ -66,7 +68,7 @@ pub fn list_of(alloc: Global, basis: BasisId, degree: u32) -> Result<Codes, OutO
         BasisId::FqsymF => FqsymF::list(alloc, degree),
         BasisId::FqsymG => FqsymG::list(alloc, degree),
         BasisId::WqsymM => WqsymM::list(alloc, degree),
-        BasisId::FsymS => unreachable!(),
+        BasisId::FsymS => FsymS::list(alloc, degree),
         BasisId::PbtP => PbtP::list(alloc, degree),
     }
 }
@@ -95,7 +97,7 @@ pub fn product_of(
         BasisId::FqsymF => FqsymF::product(alloc, left, right),
         BasisId::FqsymG => FqsymG::product(alloc, left, right),
         BasisId::WqsymM => WqsymM::product(alloc, left, right),
-        BasisId::FsymS => unreachable!(),
+        BasisId::FsymS => FsymS::product(alloc, left, right),
         BasisId::PbtP => PbtP::product(alloc, left, right),
     }
 }
@@ -116,7 +118,33 @@ pub fn coproduct_of(alloc: Global, basis: BasisId, code: &Code) -> Result<Combo,
         BasisId::FqsymF => FqsymF::coproduct(alloc, code),
         BasisId::FqsymG => FqsymG::coproduct(alloc, code),
         BasisId::WqsymM => WqsymM::coproduct(alloc, code),
-        BasisId::FsymS => unreachable!(),
+        BasisId::FsymS => FsymS::coproduct(alloc, code),
         BasisId::PbtP => PbtP::coproduct(alloc, code),
+    }
+}
+
+/// The antipode of an element of a built basis, as a combination over the same basis. The memo gives the antipodes
+/// that it keeps, and keeps those that are found. The cost is that of the recursion over the coproduct.
+pub fn antipode_of(
+    alloc: Global,
+    basis: BasisId,
+    code: &Code,
+    memo: &mut Memo,
+) -> Result<Combo, OutOfMemory>
+    requires built { IsTrue (is_built basis) }
+    requires index { IsIndexWithin basis code.now }
+    ensures { IfOk result (IsAnswer (basis ∷ []) (degree_of basis code.now) (applied of_antipode 0 (element basis code.now))) }
+{
+    match basis {
+        BasisId::QsymM => antipode::<QsymM>(alloc, code, memo),
+        BasisId::QsymF => antipode::<QsymF>(alloc, code, memo),
+        BasisId::NcsfS => antipode::<NcsfS>(alloc, code, memo),
+        BasisId::NcsfL => antipode::<NcsfL>(alloc, code, memo),
+        BasisId::NcsfR => antipode::<NcsfR>(alloc, code, memo),
+        BasisId::FqsymF => antipode::<FqsymF>(alloc, code, memo),
+        BasisId::FqsymG => antipode::<FqsymG>(alloc, code, memo),
+        BasisId::WqsymM => antipode::<WqsymM>(alloc, code, memo),
+        BasisId::FsymS => antipode::<FsymS>(alloc, code, memo),
+        BasisId::PbtP => antipode::<PbtP>(alloc, code, memo),
     }
 }

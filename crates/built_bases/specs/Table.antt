@@ -13,5 +13,5 @@ is_built NcsfR = true
 is_built FqsymF = true
 is_built FqsymG = true
 is_built WqsymM = true
-is_built FsymS = false
+is_built FsymS = true
 is_built PbtP = true

@@ -18,7 +18,7 @@ pub fn is_built_basis(basis: BasisId) -> bool
         BasisId::FqsymF => true,
         BasisId::FqsymG => true,
         BasisId::WqsymM => true,
-        BasisId::FsymS => false,
+        BasisId::FsymS => true,
         BasisId::PbtP => true,
     }
 }

@@ -11,10 +11,10 @@ use Rattle.session_tokens.specs.declared.lexeme.Lexeme.TheVariants as lex
 -- whether a linear function is built
 abbrev pub is_built_map : Linear → Bool
 is_built_map Coproduct = true
-is_built_map Antipode = false
+is_built_map Antipode = true
 is_built_map Counit = true
 is_built_map Mult = true
-is_built_map Commute = false
+is_built_map Commute = true
 
 -- whether a form is built: a statement that has it can be evaluated
 abbrev pub is_built : Form → Bool
@@ -23,7 +23,7 @@ is_built Conversion = true
 is_built (Map f) = is_built_map f
 is_built Pairing = false
 is_built Along = false
-is_built Equality = false
+is_built Equality = true
 
 -- lexemes begin with a form that is not built: the name of a basis, with or without a conversion, a function word, or `==`
 abbrev pub begins_unbuilt : List Lexeme → Bool

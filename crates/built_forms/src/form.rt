@@ -30,10 +30,10 @@ fn is_built_linear(map: Linear) -> bool
 {
     match map {
         Linear::Coproduct => true,
-        Linear::Antipode => false,
+        Linear::Antipode => true,
         Linear::Counit => true,
         Linear::Mult => true,
-        Linear::Commute => false,
+        Linear::Commute => true,
     }
 }
 
@@ -47,6 +47,6 @@ pub fn is_built_form(form: Form) -> bool
         Form::Linear(map) => is_built_linear(map),
         Form::Pairing => false,
         Form::Along => false,
-        Form::Equality => false,
+        Form::Equality => true,
     }
 }

@@ -2,6 +2,8 @@
 #![tactic(auto)]
 
 #[cfg(test)]
+mod antipodes_of_values;
+#[cfg(test)]
 mod keys;
 #[cfg(test)]
 mod lists_of_parts;

@@ -14,7 +14,7 @@ use Rattle.built_forms.specs.Forms.{is_built_map, begins_unbuilt}
 use Rattle.index_spellings.specs.Indices.{index_in, is_nothing, begins_bad_list}
 use Rattle.session_reading.specs.Faults.{begins_large, IsUnseen}
 use Rattle.session_reading.specs.Parses.{IsSound}
-use Rattle.session_evaluation.specs.Built.{IsBuilt, built_number, built_element, built_name, built_conversion, built_function, built_sum, built_tensor, built_product, AreBuilt, no_steps, built_step, IsBuiltStatement, nothing, printed, assigned}
+use Rattle.session_evaluation.specs.Built.{IsBuilt, built_number, built_element, built_name, built_conversion, built_function, built_sum, built_tensor, built_product, AreBuilt, no_steps, built_step, IsBuiltStatement, nothing, printed, assigned, compared}
 use Rattle.session_evaluation.specs.Evaluation.{steps_of_sum, steps_of_tensor, steps_of_product}
 use Rattle.session_grammar.specs.declared.expression.Expr.TheVariants as e
 
@@ -138,7 +138,7 @@ statement_read : {ls : List Lexeme} {st : Statement} → IsStatement ls st → I
 statement_read empty clean = nothing
 statement_read (assign is h) clean = assigned (sum_read h clean.3.3).0
 statement_read (print h) clean = printed (sum_read h clean).0
-statement_read (equal h more) clean = absurd (seen_unseen (sum_read h clean).1.1)
+statement_read (equal h more) clean = let first = sum_read h clean in compared first.0 (sum_read more first.1.3).0
 
 pub sound_built : (ls : List Lexeme) (st : Statement) → IsSound ls st → IsBuiltStatement st
 sound_built ls st h = statement_read h.statement.is (unseen_clean ls h.flawless.small h.flawless.built h.flawless.indices)

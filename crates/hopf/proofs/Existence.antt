@@ -10,13 +10,14 @@ use Rattle.session_reading.specs.Parses.{IsAnswer}
 use Rattle.session_reading.proofs.OneAnswer.{answer_exists}
 use Rattle.value_texts.proofs.OneText.{text_exists}
 use Rattle.hopf.specs.declared.statement.Outcome.{Outcome}
-use Rattle.hopf.specs.declared.statement.Outcome.TheVariants.{Empty, Kept, Printed, Refused}
-use Rattle.session_evaluation.specs.Built.{IsBuilt, IsBuiltStatement, nothing, printed as built_print, assigned as built_assignment}
+use Rattle.hopf.specs.declared.statement.Outcome.TheVariants.{Empty, Kept, Printed, Compared, Refused}
+use Rattle.session_evaluation.specs.Built.{IsBuilt, IsBuiltStatement, nothing, printed as built_print, assigned as built_assignment, compared as built_equality}
 use Rattle.session_evaluation.specs.Names.{Names, with_value, has_room_for, AreValues}
-use Rattle.session_evaluation.specs.Evaluation.{Answer, Evaluates}
-use Rattle.hopf.specs.Outcomes.{refused_as, Keeps, room, no_room, IsOutcomeOf, empty, printed, not_printed, kept, not_kept, IsOutcome, too_long, misread, read}
+use Rattle.session_evaluation.specs.Evaluation.{Answer, Evaluates, Compares}
+use Rattle.hopf.specs.Outcomes.{refused_as, Keeps, room, no_room, IsOutcomeOf, empty, printed, not_printed, kept, not_kept, compared, not_compared, IsOutcome, too_long, misread, read}
 use Rattle.hopf.specs.Transcript.{is_end, is_none, trimmed, unfinished, AreOutcomes, IsScript}
 use Rattle.hopf.proofs.BuiltStatements.{sound_built}
+use Rattle.session_evaluation.proofs.Comparisons.{Comparison, comparison_exists, equality_meant}
 use Rattle.session_evaluation.proofs.EvaluationsExist.{evaluation_exists}
 use Rattle.session_evaluation.proofs.GoodAnswers.{evaluated_value}
 use Rattle.session_evaluation.proofs.Meanings.{meant}
@@ -41,11 +42,17 @@ assignment_exists names name x (Ok v) are h =
     let keeps = keep_exists names name v (has_room_for names name) refl in (keeps.0, keeps.1, kept h (meant names x v are h) keeps.2)
 assignment_exists names name x (Err r) are h = (Refused (refused_as r), names, not_kept h)
 
+-- An equality has an outcome.
+equality_exists : (names : Names) (x y : Expr) (answer : Comparison) → AreValues names → Compares names x y answer → (o : Outcome) × (left : Names) × IsOutcomeOf names (s.Equal x y) o left
+equality_exists names x y (Ok same) are h = (Compared same, names, compared h (equality_meant names x y same are h))
+equality_exists names x y (Err r) are h = (Refused (refused_as r), names, not_compared h)
+
 -- A statement that is built has an outcome.
 outcome_of_exists : (names : Names) (st : Statement) → AreValues names → IsBuiltStatement st → (o : Outcome) × (left : Names) × IsOutcomeOf names st o left
 outcome_of_exists names st are nothing = (Empty, names, empty)
 outcome_of_exists names st are (built_print {x = x} built) = let h = evaluation_exists names x are built in print_exists names x h.0 are built h.1
 outcome_of_exists names st are (built_assignment {name = name} {x = x} built) = let h = evaluation_exists names x are built in assignment_exists names name x h.0 are h.1
+outcome_of_exists names st are (built_equality {x = x} {y = y} first second) = let h = comparison_exists names are x y first second in equality_exists names x y h.0 are h.1
 
 from_answer : (names : Names) (text : List ℕ) (answer : Result Statement GrammarFault) → AreValues names → length text ≤ 65536 → IsAnswer text answer → (o : Outcome) × (left : Names) × IsOutcome names text o left
 from_answer names text (Ok st) are short h = let is = outcome_of_exists names st are (sound_built _ st h.answers) in (is.0, is.1, read short h is.2)

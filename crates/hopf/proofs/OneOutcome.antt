@@ -1,5 +1,5 @@
 -- A text has one outcome in names that stand for values, and leaves one list of them.
-use Rattle.std.proofs.Common.{◌≡◌, ℕ, List, true, false, Ok, Err, Result, refl, sym, ◌∙◌, ap, subst, arith}
+use Rattle.std.proofs.Common.{◌≡◌, ℕ, List, Bool, true, false, Ok, Err, Result, refl, sym, ◌∙◌, ap, subst, arith}
 use Rattle.hopf_laws.specs.Values.{Expansion, IsValue}
 use Rattle.session_grammar.specs.declared.expression.Expr.{Expr}
 use Rattle.session_grammar.specs.declared.expression.Statement.{Statement}
@@ -10,12 +10,13 @@ use Rattle.session_reading.proofs.OneAnswer.{answer_once}
 use Rattle.value_texts.proofs.OneText.{text_once}
 use Rattle.session_evaluation.specs.declared.refusal.EvaluationRefusal.{EvaluationRefusal}
 use Rattle.hopf.specs.declared.statement.Outcome.{Outcome}
-use Rattle.hopf.specs.declared.statement.Outcome.TheVariants.{Printed, Refused}
-use Rattle.session_evaluation.specs.Built.{IsBuilt, IsBuiltStatement, printed as built_print, assigned as built_assignment}
+use Rattle.hopf.specs.declared.statement.Outcome.TheVariants.{Printed, Compared, Refused}
+use Rattle.session_evaluation.specs.Built.{IsBuilt, IsBuiltStatement, printed as built_print, assigned as built_assignment, compared as built_equality}
 use Rattle.session_evaluation.specs.Names.{Names, AreValues}
-use Rattle.session_evaluation.specs.Evaluation.{Answer, Evaluates}
-use Rattle.hopf.specs.Outcomes.{refused_as, Keeps, room, no_room, IsOutcomeOf, empty, printed, not_printed, kept, not_kept, IsOutcome, too_long, misread, read}
+use Rattle.session_evaluation.specs.Evaluation.{Answer, Evaluates, Compares}
+use Rattle.hopf.specs.Outcomes.{refused_as, Keeps, room, no_room, IsOutcomeOf, empty, printed, not_printed, kept, not_kept, compared, not_compared, IsOutcome, too_long, misread, read}
 use Rattle.hopf.proofs.BuiltStatements.{sound_built}
+use Rattle.session_evaluation.proofs.Comparisons.{Comparison, comparison_once}
 use Rattle.session_evaluation.proofs.GoodAnswers.{evaluated_value}
 use Rattle.session_evaluation.proofs.KnownNames.{values-with_value}
 use Rattle.session_evaluation.proofs.OneEvaluation.{evaluation_once}
@@ -49,6 +50,25 @@ print_built x (built_print built) = built
 assignment_built : (name : List ℕ) (x : Expr) → IsBuiltStatement (s.Assign name x) → IsBuilt x
 assignment_built name x (built_assignment built) = built
 
+equality_built : (x y : Expr) → IsBuiltStatement (s.Equal x y) → IsBuilt x × IsBuilt y
+equality_built x y (built_equality first second) = (first, second)
+
+-- an equality has one answer
+same_truth : (names : Names) (x y : Expr) (p q : Bool) → AreValues names → IsBuiltStatement (s.Equal x y) → Compares names x y (Ok p) → Compares names x y (Ok q) → p ≡ q
+same_truth names x y p q are built h k =
+    let parts = equality_built x y built in
+    let same : ◌≡◌ {A = Comparison} (Ok p) (Ok q) = comparison_once names are x y parts.0 parts.1 (Ok p) (Ok q) h k in cc
+
+same_comparison : (names : Names) (x y : Expr) (r q : EvaluationRefusal) → AreValues names → IsBuiltStatement (s.Equal x y) → Compares names x y (Err r) → Compares names x y (Err q) → r ≡ q
+same_comparison names x y r q are built h k =
+    let parts = equality_built x y built in
+    let same : ◌≡◌ {A = Comparison} (Err r) (Err q) = comparison_once names are x y parts.0 parts.1 (Err r) (Err q) h k in cc
+
+truth_or_refusal : (names : Names) (x y : Expr) (p : Bool) (r : EvaluationRefusal) → AreValues names → IsBuiltStatement (s.Equal x y) → Compares names x y (Ok p) → Compares names x y (Err r) → ⊥
+truth_or_refusal names x y p r are built h k =
+    let parts = equality_built x y built in
+    let same : ◌≡◌ {A = Comparison} (Ok p) (Err r) = comparison_once names are x y parts.0 parts.1 (Ok p) (Err r) h k in absurd (cc)
+
 outcome_of_once : (names : Names) (st : Statement) (o p : Outcome) (left left' : Names) → AreValues names → IsBuiltStatement st → IsOutcomeOf names st o left → IsOutcomeOf names st p left' → (o ≡ p) × (left ≡ left')
 outcome_of_once names st o p left left' are built empty empty = (refl, refl)
 outcome_of_once names st o p left left' are built (printed {x = x} {v = v} {text = a} h m t) (printed {v = w} {text = b} k n u) = (ap Printed (same_text names x v w a b are (print_built x built) h k t u), refl)
@@ -60,6 +80,10 @@ outcome_of_once names st o p left left' are built (kept {name = name} {x = x} {v
 outcome_of_once names st o p left left' are built (kept {name = name} {x = x} {v = v} h m i) (not_kept {r = r} k) = absurd (not_both names x v r are (assignment_built name x built) h k)
 outcome_of_once names st o p left left' are built (not_kept {name = name} {x = x} {r = r} k) (kept {v = v} h m i) = absurd (not_both names x v r are (assignment_built name x built) h k)
 outcome_of_once names st o p left left' are built (not_kept {name = name} {x = x} {r = r} h) (not_kept {r = q} k) = (ap (λ (z : EvaluationRefusal). Refused (refused_as z)) (same_refusal names x r q are (assignment_built name x built) h k), refl)
+outcome_of_once names st o p left left' are built (compared {x = x} {y = y} {same = t} h m) (compared {same = u} k n) = (ap (λ (b : Bool). Compared b) (same_truth names x y t u are built h k), refl)
+outcome_of_once names st o p left left' are built (compared {x = x} {y = y} {same = t} h m) (not_compared {r = r} k) = absurd (truth_or_refusal names x y t r are built h k)
+outcome_of_once names st o p left left' are built (not_compared {x = x} {y = y} {r = r} k) (compared {same = t} h m) = absurd (truth_or_refusal names x y t r are built h k)
+outcome_of_once names st o p left left' are built (not_compared {x = x} {y = y} {r = r} h) (not_compared {r = q} k) = (ap (λ (z : EvaluationRefusal). Refused (refused_as z)) (same_comparison names x y r q are built h k), refl)
 
 same_fault : (text : List ℕ) (f g : GrammarFault) → IsAnswer text (Err f) → IsAnswer text (Err g) → f ≡ g
 same_fault text f g h k = let same : ◌≡◌ {A = Result Statement GrammarFault} (Err f) (Err g) = answer_once text (Err f) (Err g) h k in cc
@@ -96,6 +120,8 @@ left_values names st o left are built (printed h m t) = are
 left_values names st o left are built (not_printed h) = are
 left_values names st o left are built (kept {name = name} {x = x} {v = v} h m i) = keeps_values names name v o left are (built_assigned names name x v are built h) i
 left_values names st o left are built (not_kept h) = are
+left_values names st o left are built (compared h m) = are
+left_values names st o left are built (not_compared h) = are
 
 pub values_left : (names : Names) (text : List ℕ) (o : Outcome) (left : Names) → AreValues names → IsOutcome names text o left → AreValues left
 values_left names text o left are (too_long long) = are

@@ -1,8 +1,9 @@
 -- No row refuses for want of memory.
 use Rattle.std.proofs.Common.{◌≡◌, ◌≢◌, ℕ, ◌+◌, ◌*◌, inl, inr, Bool, true, false, List, [], ◌∷◌, ◌++◌, length, Err, sym, ◌∙◌}
 use Rattle.std.specs.Prelude.{max, unwrap_or}
-use Rattle.realisations.specs.Readings.{Reading, applied, coproduct, counit, mult, product, tensor}
+use Rattle.realisations.specs.Readings.{Reading, applied, coproduct, antipode, counit, mult, commute, product, tensor}
 use Rattle.basis_names.specs.declared.bases.BasisId.{BasisId}
+use Rattle.basis_names.specs.declared.bases.BasisId.TheVariants.{QsymM}
 use Rattle.session_tokens.specs.declared.lexeme.Linear.{Linear}
 use Rattle.session_tokens.specs.declared.lexeme.Linear.TheVariants.{Coproduct, Antipode, Counit, Mult, Commute}
 use Rattle.hopf_laws.specs.Bases.{least_limit}
@@ -21,7 +22,7 @@ use Rattle.basis_routes.specs.Places.{position_of, component_checks, doubling_ch
 use Rattle.basis_routes.specs.Rows.{Row, Checked, Then, Answers}
 use Rattle.hopf_ops.specs.declared.operator.Operator.{Operator}
 use Rattle.hopf_ops.specs.declared.operator.Operator.TheVariants.{Plus, Minus, Hash, Times, Over}
-use Rattle.hopf_ops.specs.Operations.{common_checks, sum_room, SumOver, SumRow, NegationRow, has_scalar, product_room, ProductOver, ProductBy, tensor_checks, quotient_checks, RowOf, NeighbourProduct, MultAt}
+use Rattle.hopf_ops.specs.Operations.{common_checks, sum_room, SumOver, SumRow, NegationRow, has_scalar, product_room, ProductOver, ProductBy, tensor_checks, quotient_checks, RowOf, NeighbourProduct, MultAt, CommuteAt, BothBrought, ComparedRow}
 use Rattle.hopf_ops.specs.ReadingOperations.{negative, sum_or_difference, quotient}
 use Rattle.session_evaluation.specs.Functions.{LinearRow}
 
@@ -114,6 +115,13 @@ operator_tells Hash a b = answered_tells (tensor_checks a b) (a.bases ++ b.bases
 operator_tells Times a b = product_tells (has_scalar a b) a b
 operator_tells Over a b = answered_tells (quotient_checks a b) a.bases (quotient (reading_of a) (reading_of b))
 
+-- an equality is refused as its operands are brought to their joins
+pub compared_tells : (a b : Expansion) → Tells (ComparedRow a b)
+compared_tells a b =
+    let targets = joined a.bases b.bases in
+    checked_tells (common_checks (max (degree_of_value a) (degree_of_value b)) a b) (BothBrought targets a b)
+    (then_tells (Converts targets a) (λ x. Converts targets b) (converting_tells 0 targets a) (λ x. converting_tells 0 targets b))
+
 pub negation_tells : (a : Expansion) → Tells (NegationRow a)
 negation_tells a = answers_tell a.bases (negative (reading_of a))
 
@@ -134,10 +142,15 @@ mult_at_tells n a r (before, left, right, after, bases, place, h) memory =
     checked_tells (Joined left right ∷ DegreeWithin (degree_of_value a) (least_limit (before ++ join ∷ after)) ∷ []) (NeighbourProduct before after join a)
     (neighbours_tell before after join a) r h memory
 
+commute_at_tells : (n : ℕ) (a : Expansion) → Tells (CommuteAt n a)
+commute_at_tells n a r (inl (same, is)) memory = absurd (cc)
+commute_at_tells n a r (inr (other, h)) memory = answered_tells (linear_checks a) (replaced n (QsymM ∷ []) a.bases) (applied commute n (reading_of a)) r h memory
+
 pub function_tells : (map : Linear) (at : Place) (a : Expansion) → Tells (LinearRow map at a)
 function_tells Coproduct at a =
     answered_tells (doubling_checks at (length a.bases) ++ linear_checks a) (doubled (position_of at) a.bases) (applied coproduct (position_of at) (reading_of a))
-function_tells Antipode at a = λ r h. absurd h
+function_tells Antipode at a =
+    answered_tells (component_checks at (length a.bases) ++ linear_checks a) a.bases (applied antipode (position_of at) (reading_of a))
 function_tells Counit at a = answered_tells (component_checks at (length a.bases)) (without (position_of at) a.bases) (applied counit (position_of at) (reading_of a))
 function_tells Mult at a = checked_tells (neighbour_checks at (length a.bases)) (MultAt (position_of at) a) (mult_at_tells (position_of at) a)
-function_tells Commute at a = λ r h. absurd h
+function_tells Commute at a = checked_tells (component_checks at (length a.bases)) (CommuteAt (position_of at) a) (commute_at_tells (position_of at) a)

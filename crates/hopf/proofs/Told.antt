@@ -1,20 +1,20 @@
 -- Every refusal is told: want of memory is none.
-use Rattle.std.proofs.Common.{◌≡◌, ◌≢◌, Bool, true, false, Ok, Err, sym, subst}
+use Rattle.std.proofs.Common.{◌≡◌, ◌≢◌, Bool, true, false, Result, Ok, Err, sym, subst}
 use Rattle.basis_routes.specs.declared.refusal.Refusal.{Refusal}
 use Rattle.basis_routes.specs.Conversions.{ConversionRow}
 use Rattle.basis_routes.specs.Rows.{Row}
 use Rattle.hopf_laws.specs.Values.{Expansion}
 use Rattle.hopf_ops.specs.declared.operator.Operator.{Operator}
-use Rattle.hopf_ops.specs.Operations.{RowOf, NegationRow}
+use Rattle.hopf_ops.specs.Operations.{RowOf, NegationRow, EqualRow}
 use Rattle.session_grammar.specs.declared.expression.Expr.{Expr}
 use Rattle.session_evaluation.specs.declared.refusal.EvaluationRefusal.{EvaluationRefusal}
 use Rattle.hopf.specs.declared.statement.Outcome.TheVariants.{Refused}
 use Rattle.session_evaluation.specs.Functions.{place_of, LinearRow}
 use Rattle.session_evaluation.specs.Names.{Names}
-use Rattle.session_evaluation.specs.Evaluation.{Answer, told, Allows, Steps, steps_of_sum, steps_of_tensor, steps_of_product, Applies, ActsOn, Signs, Evaluates, number, element, known, unknown, converted, applied, sum, tensor_product, product, Folds, done, refused, step}
+use Rattle.session_evaluation.specs.Evaluation.{Answer, told, Allows, Steps, steps_of_sum, steps_of_tensor, steps_of_product, Applies, ActsOn, Signs, Evaluates, number, element, known, unknown, converted, applied, sum, tensor_product, product, Folds, done, refused, step, Compares, first_refused, second_refused, compared}
 use Rattle.hopf.specs.Outcomes.{refused_as}
 use Rattle.hopf.specs.Sessions.{IsTold}
-use Rattle.hopf.proofs.RefusalsOfRows.{Tells, conversion_tells, operator_tells, negation_tells, function_tells}
+use Rattle.hopf.proofs.RefusalsOfRows.{Tells, conversion_tells, operator_tells, negation_tells, function_tells, compared_tells}
 use Rattle.basis_routes.specs.declared.refusal.Refusal.TheVariants as value
 use Rattle.session_evaluation.specs.declared.refusal.EvaluationRefusal.TheVariants as refusal
 
@@ -74,3 +74,15 @@ mutual
 -- the refusal of an expression is told
 pub refusal_told : (names : Names) (x : Expr) (r : EvaluationRefusal) → Evaluates names x (Err r) → IsTold (Refused (refused_as r))
 refusal_told names x r h = evaluated_told names x (Err r) h
+
+-- so is that of an equality
+allowed_refusal : (a b : Expansion) (r : EvaluationRefusal) → Allows (EqualRow a b) (Err r) → IsTold (Refused (refused_as r))
+allowed_refusal a b r (Ok same, row, is) = absurd (let both : ◌≡◌ {A = Result Bool EvaluationRefusal} (Err r) (Ok same) = is in cc)
+allowed_refusal a b r (Err q, row, is) =
+    let both : r ≡ refusal.Value q = cc in
+    subst (λ (p : EvaluationRefusal). IsTold (Refused (refused_as p))) (sym both) (value_told q (compared_tells a b q row))
+
+pub comparison_told : (names : Names) (x y : Expr) (r : EvaluationRefusal) → Compares names x y (Err r) → IsTold (Refused (refused_as r))
+comparison_told names x y r (first_refused h) = refusal_told names x r h
+comparison_told names x y r (second_refused h k) = refusal_told names y r k
+comparison_told names x y r (compared {a = a} {b = b} h k allows) = allowed_refusal a b r allows

@@ -1,5 +1,5 @@
 -- What a statement comes to, by cases, what it does to the names, and the line that it prints.
-use Rattle.std.specs.Prelude.{◌≡◌, ℕ, ◌<◌, ◌≤◌, List, [], ◌∷◌, ◌++◌, Bool, true, false, Ok, Err, length}
+use Rattle.std.specs.Prelude.{◌≡◌, ℕ, ◌<◌, ◌≤◌, List, [], ◌∷◌, ◌++◌, Bool, true, false, Ok, Err, length, codes}
 use Rattle.hopf_laws.specs.Values.{Expansion}
 use Rattle.session_grammar.specs.declared.expression.Expr.{Expr}
 use Rattle.session_grammar.specs.declared.expression.Statement.{Statement}
@@ -9,10 +9,10 @@ use Rattle.value_texts.specs.Text.{IsTextOf}
 use Rattle.session_evaluation.specs.declared.refusal.EvaluationRefusal.{EvaluationRefusal}
 use Rattle.hopf.specs.declared.refusal.StatementRefusal.{StatementRefusal}
 use Rattle.hopf.specs.declared.statement.Outcome.{Outcome}
-use Rattle.hopf.specs.declared.statement.Outcome.TheVariants.{Empty, Kept, Printed, Refused}
+use Rattle.hopf.specs.declared.statement.Outcome.TheVariants.{Empty, Kept, Printed, Compared, Refused}
 use Rattle.session_evaluation.specs.Names.{Names, with_value, has_room_for}
-use Rattle.session_evaluation.specs.Evaluation.{Evaluates}
-use Rattle.session_evaluation.specs.Meaning.{IsMeant}
+use Rattle.session_evaluation.specs.Evaluation.{Evaluates, Compares}
+use Rattle.session_evaluation.specs.Meaning.{IsMeant, TellsSame}
 use Rattle.hopf.specs.Refusals.{refusal_line}
 use Rattle.session_grammar.specs.declared.expression.Statement.TheVariants as s
 use Rattle.session_evaluation.specs.declared.refusal.EvaluationRefusal.TheVariants as evaluation
@@ -42,6 +42,10 @@ pub data IsOutcomeOf (names : Names) : Statement → Outcome → Names → Type 
       → IsOutcomeOf names (s.Assign name x) outcome left
   -- or the sum is refused
   not_kept : {name : List ℕ} {x : Expr} {r : EvaluationRefusal} → Evaluates names x (Err r) → IsOutcomeOf names (s.Assign name x) (Refused (refused_as r)) names
+  -- an equality prints whether both of its sums mean the same
+  compared : {x y : Expr} {same : Bool} → Compares names x y (Ok same) → TellsSame names x y same → IsOutcomeOf names (s.Equal x y) (Compared same) names
+  -- or it is refused
+  not_compared : {x y : Expr} {r : EvaluationRefusal} → Compares names x y (Err r) → IsOutcomeOf names (s.Equal x y) (Refused (refused_as r)) names
 
 -- the outcome of the text of a statement whose `;` came, and the names after it
 pub data IsOutcome (names : Names) (text : List ℕ) : Outcome → Names → Type 0 where
@@ -50,16 +54,23 @@ pub data IsOutcome (names : Names) (text : List ℕ) : Outcome → Names → Typ
   read : {st : Statement} {outcome : Outcome} {left : Names} → length text ≤ 65536 → IsAnswer text (Ok st) → IsOutcomeOf names st outcome left
       → IsOutcome names text outcome left
 
+-- the text of what an equality tells
+abbrev pub truth_text : Bool → List ℕ
+truth_text true = codes "true"
+truth_text false = codes "false"
+
 -- the line of the statement with this number, or nothing
 abbrev pub line_of : ℕ → Outcome → List ℕ
 line_of k Empty = []
 line_of k Kept = []
 line_of k (Printed text) = text ++ 10 ∷ []
+line_of k (Compared same) = truth_text same ++ 10 ∷ []
 line_of k (Refused r) = refusal_line k r
 
--- the outcome is a printed value
+-- the outcome is a printed value, or what an equality tells
 abbrev pub is_printed : Outcome → Bool
 is_printed (Printed text) = true
+is_printed (Compared same) = true
 is_printed _ = false
 
 -- the outcome is a refusal

@@ -47,7 +47,7 @@ abbrev pub lines : ℕ → List Outcome → List ℕ
 lines k [] = []
 lines k (outcome ∷ rest) = line_of (k + 1) outcome ++ lines (k + 1) rest
 
--- how many of the outcomes are printed values, and how many refusals
+-- how many of the outcomes are printed values or tell an equality, and how many are refusals
 abbrev pub count_printed : List Outcome → ℕ
 count_printed outcomes = count_by is_printed outcomes
 

@@ -17,7 +17,7 @@ pub fn pending_law(session: &Session)
 {}
 
 /// A line that a session prints for a value can be entered again, in that session or in another one,
-/// and prints the same line.
+/// and prints the same line. The line of an equality is none of a value.
 pub fn read_back_law()
     ensures { ReadBackLaw }
 {}

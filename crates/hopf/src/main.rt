@@ -1,4 +1,4 @@
-//! `hopf`: reads a session of statements, and prints a line for each value and each refusal.
+//! `hopf`: reads a session of statements, and prints a line for each value, equality and refusal.
 #![tactic(auto)]
 
 mod laws;

@@ -53,8 +53,8 @@ impl From<OutOfMemory> for SessionFault {
     }
 }
 
-/// How many statements a session has run, empty ones included, how many of them printed a value, and
-/// how many were refused.
+/// How many statements a session has run, empty ones included, how many of them printed a value,
+/// `true` or `false`, and how many were refused.
 #[derive(Clone, Copy, Debug, PartialEq, Eq)]
 pub struct Counts {
     pub statements: u64,
@@ -137,7 +137,7 @@ impl Session {
     {
         self.statements += 1;
         match outcome {
-            Outcome::Printed(_) => self.printed += 1,
+            Outcome::Printed(_) | Outcome::Compared(_) => self.printed += 1,
             Outcome::Refused(_) => self.refused += 1,
             Outcome::Empty | Outcome::Kept => {}
         }

@@ -1,10 +1,10 @@
 //! What a statement comes to, and its line.
-ghost use Rattle.std.specs.Prelude.{◌≡◌, OnErr, IfOk};
+ghost use Rattle.std.specs.Prelude.{◌≡◌, ◌++◌, [], ◌∷◌, OnErr, IfOk};
 ghost use Rattle.session_evaluation.specs.Built.{IsBuilt, IsBuiltStatement};
 ghost use Rattle.hopf_laws.specs.Values.{IsValue};
-ghost use Rattle.session_evaluation.specs.Evaluation.{Evaluates};
+ghost use Rattle.session_evaluation.specs.Evaluation.{Evaluates, Compares};
 ghost use Rattle.session_evaluation.specs.Names.{AreValues};
-ghost use Rattle.hopf.specs.Outcomes.{refused_as, Keeps, IsOutcomeOf, IsOutcome, line_of as line_of_outcome};
+ghost use Rattle.hopf.specs.Outcomes.{refused_as, Keeps, IsOutcomeOf, IsOutcome, truth_text as text_of_truth, line_of as line_of_outcome};
 ghost use Rattle.hopf.specs.Sessions.{IsTold};
 ghost use Rattle.hopf.specs.Transcript.{unfinished_refusal};
 
@@ -12,7 +12,7 @@ use crate::refusal::{StatementRefusal, line_of_refusal};
 use basis_routes::{Refusal, Value};
 use hopf_io::Bytes;
 use hopf_num::OutOfMemory;
-use session_evaluation::{EvaluationRefusal, Names, value_of};
+use session_evaluation::{EvaluationRefusal, Names, are_equal, value_of};
 use session_grammar::{Expr, Statement};
 use session_reading::{GrammarFault, parse};
 use session_tokens::Name;
@@ -31,6 +31,8 @@ pub enum Outcome {
     Kept,
     /// It prints this text.
     Printed(Bytes),
+    /// It prints `true` where both sides of an equality mean the same, and else `false`.
+    Compared(bool),
     /// It is refused, and changed nothing.
     Refused(StatementRefusal),
 }
@@ -121,6 +123,42 @@ fn outcome_of_assignment(
     }
 }
 
+// Whether two expressions are equal, or the refusal; want of memory is none.
+fn compared(
+    alloc: Global,
+    names: &Names,
+    x: &Expr,
+    y: &Expr,
+) -> Result<Result<bool, EvaluationRefusal>, OutOfMemory>
+    requires first { IsBuilt x.now }
+    requires second { IsBuilt y.now }
+    ensures { IfOk result (Compares names.now x.now y.now) }
+{
+    match are_equal(alloc, names, x, y) {
+        Err(EvaluationRefusal::Value(Refusal::Memory)) => Err(OutOfMemory),
+        answer => Ok(answer),
+    }
+}
+
+// The outcome of an equality.
+fn outcome_of_equality(
+    alloc: Global,
+    names: &Names,
+    x: &Expr,
+    y: &Expr,
+) -> Result<Outcome, OutOfMemory>
+    requires values { AreValues names.now }
+    requires first { IsBuilt x.now }
+    requires second { IsBuilt y.now }
+    ensures outcome { IfOk result (λ outcome. IsOutcomeOf names.now (Statement.Equal x.now y.now) outcome names.now) }
+    ensures told { IfOk result IsTold }
+{
+    match compared(alloc, names, x, y)? {
+        Ok(same) => Ok(Outcome::Compared(same)),
+        Err(refusal) => Ok(Outcome::Refused(refusal_of(refusal))),
+    }
+}
+
 // The outcome of a statement.
 fn outcome_of(
     alloc: Global,
@@ -137,7 +175,7 @@ fn outcome_of(
         Statement::Empty => Ok(Outcome::Empty),
         Statement::Print(x) => outcome_of_print(alloc, names, &x),
         Statement::Assign { name, value } => outcome_of_assignment(alloc, names, name, &value),
-        Statement::Equal(_, _) => unreachable!(),
+        Statement::Equal(x, y) => outcome_of_equality(alloc, names, &x, &y),
     }
 }
 
@@ -174,18 +212,31 @@ pub fn refusal_of_unfinished(text: &[u8]) -> StatementRefusal
     }
 }
 
+// A text as a line.
+fn line_with(alloc: Global, text: &[u8]) -> Result<Bytes, OutOfMemory>
+    ensures { IfOk result (λ line. line ≡ text.now ++ 10 ∷ []) }
+{
+    let mut line = Bytes::new(alloc);
+    line.push_all(text)?;
+    line.push_all(b"\n")?;
+    Ok(line)
+}
+
+// The text of what an equality tells.
+fn truth_text(same: bool) -> &'static [u8]
+    ensures { result.now ≡ text_of_truth same }
+{
+    if same { b"true" } else { b"false" }
+}
+
 /// The line of the outcome of the statement with this number, with its line feed, or nothing.
 pub fn line_of(alloc: Global, number: u64, outcome: &Outcome) -> Result<Bytes, OutOfMemory>
     ensures { IfOk result (λ line. line ≡ line_of_outcome number outcome.now) }
 {
     match outcome {
         Outcome::Empty | Outcome::Kept => Ok(Bytes::new(alloc)),
-        Outcome::Printed(text) => {
-            let mut line = Bytes::new(alloc);
-            line.push_all(text.as_slice())?;
-            line.push_all(b"\n")?;
-            Ok(line)
-        }
+        Outcome::Printed(text) => line_with(alloc, text.as_slice()),
+        Outcome::Compared(same) => line_with(alloc, truth_text(*same)),
         Outcome::Refused(refusal) => line_of_refusal(alloc, number, refusal),
     }
 }

@@ -26,7 +26,7 @@ doubling_checks_are (At k) rank =
     All-cons IsCheck (RankWithin (rank + 1)) (HasComponent k rank ∷ []) tt (All-cons IsCheck (HasComponent k rank) [] tt (All-nil IsCheck))
 
 -- where they pass, it is there, and there is room for one component more
-doubling_passes : (at : Place) (rank : ℕ) → All Passes (doubling_checks at rank) → (position_of at < rank) × (rank ≤ 2)
+pub doubling_passes : (at : Place) (rank : ℕ) → All Passes (doubling_checks at rank) → (position_of at < rank) × (rank ≤ 2)
 doubling_passes Only rank pass =
     let one : rank ≡ 1 = All-head Passes (SameRank rank 1) [] pass in
     (omega (arith, one), omega (arith, one))

@@ -1,8 +1,14 @@
+pub mod AntipodeRows
 pub mod AppliedReadings
 pub mod BuiltJoins
+pub mod CommuteRows
+pub mod CommuteSteps
+pub mod ConvolvedValues
 pub mod ConvertedOperands
 pub mod CoproductRows
 pub mod CounitRows
+pub mod EqualRows
+pub mod EqualValues
 pub mod Gathering
 pub mod LowestExist
 pub mod MultRows

@@ -1,4 +1,5 @@
 pub mod Answers
+pub mod Convolutions
 pub mod Gathering
 pub mod Laws
 pub mod Operations

@@ -1,20 +1,24 @@
 -- The operations on values: for each its row, which says what it checks, which operands it converts, in order, and what it answers. What its answer reads as is in `ReadingOperations`.
-use Rattle.std.specs.Prelude.{◌≡◌, ℕ, zero, suc, ◌+◌, ◌*◌, max, ◌||◌, if◌then◌else◌, Bool, true, false, List, [], ◌∷◌, ◌++◌, length, unsigned_abs, unwrap_or}
+use Rattle.std.specs.Prelude.{◌≡◌, ◌≢◌, ◌⊎◌, ◌↔◌, ℕ, zero, suc, ◌+◌, ◌*◌, max, ◌||◌, if◌then◌else◌, Bool, true, false, IsTrue, List, [], ◌∷◌, ◌++◌, length, map, unsigned_abs, get_or, unwrap_or, Result, Ok, Err}
 use Rattle.hopf_num.specs.Divisors.{IsLcm}
 use Rattle.hopf_num.specs.Room.{product_rule, sum_rule}
 use Rattle.realisations.specs.Combinations.{norm_of}
-use Rattle.realisations.specs.Readings.{applied, coproduct as of_coproduct, counit as of_counit, mult as of_mult, product, tensor}
+use Rattle.realisations.specs.Bases.{kind_of}
+use Rattle.realisations.specs.Points.{ArePoints, Points}
+use Rattle.realisations.specs.Readings.{applied, antipode as of_antipode, commute as of_commute, coproduct as of_coproduct, counit as of_counit, mult as of_mult, product, tensor, AgreeAt}
 use Rattle.basis_names.specs.declared.bases.BasisId.{BasisId}
+use Rattle.basis_names.specs.declared.bases.BasisId.TheVariants.{QsymM}
 use Rattle.hopf_laws.specs.Bases.{least_limit}
 use Rattle.hopf_laws.specs.Values.{Expansion, reading_of, ratio_of, degree_of_value}
 use Rattle.basis_routes.specs.declared.checks.Check.{Check}
 use Rattle.basis_routes.specs.declared.checks.Check.TheVariants.{SameRank, RankWithin, Scalar, Nonzero, Joined, DegreeWithin}
 use Rattle.basis_routes.specs.declared.place.Place.{Place}
+use Rattle.basis_routes.specs.declared.refusal.Refusal.{Refusal}
 use Rattle.basis_routes.specs.Checks.{room_checks}
-use Rattle.basis_routes.specs.Conversions.{linear_checks, ConvertsAt, BothConvert}
+use Rattle.basis_routes.specs.Conversions.{linear_checks, Converts, ConvertsAt, BothConvert}
 use Rattle.basis_routes.specs.JoinTable.{join_of}
 use Rattle.basis_routes.specs.Joins.{joined, join_checks}
-use Rattle.basis_routes.specs.Lists.{doubled, without}
+use Rattle.basis_routes.specs.Lists.{doubled, replaced, without}
 use Rattle.basis_routes.specs.Places.{position_of, component_checks, doubling_checks, neighbour_checks}
 use Rattle.basis_routes.specs.Rows.{Row, Checked, Then, Answers}
 use Rattle.hopf_ops.specs.declared.operator.Operator.{Operator}
@@ -42,6 +46,31 @@ SumOver minus targets a b = BothConvert targets a b (λ x y answer.
 -- a sum or a difference: Rank, Mixed and Degree; the conversions; the sum rule
 abbrev pub SumRow : Bool → Expansion → Expansion → Row
 SumRow minus a b = Checked (common_checks (max (degree_of_value a) (degree_of_value b)) a b) (SumOver minus (joined a.bases b.bases) a b)
+
+-- Equality.
+
+-- both operands are converted to these bases, the first one and then the second, to which it comes
+abbrev pub BothBrought : List BasisId → Expansion → Expansion → Row
+BothBrought targets a b = Then (Converts targets a) (λ x. Converts targets b)
+
+-- two values agree, as their readings do, at all tuples of points of the kinds of these bases
+abbrev pub AgreeOver : List BasisId → Expansion → Expansion → Type 0
+AgreeOver bases a b = (ps : Points) → ArePoints (map kind_of bases) ps → AgreeAt (reading_of a) (reading_of b) ps
+
+-- whether two values agree, once a row brought them to these bases: true exactly where they do; or the refusal of the row
+abbrev pub EqualAfter : Row → List BasisId → Expansion → Expansion → Result Bool Refusal → Type 0
+EqualAfter Brings targets a b (Ok same) = ((y : Expansion) × Brings (Ok y)) × (IsTrue same ↔ AgreeOver targets a b)
+EqualAfter Brings targets a b (Err refusal) = Brings (Err refusal)
+
+-- what is done before two values are compared: Rank, Mixed and Degree, as for a sum; the conversions
+abbrev pub ComparedRow : Expansion → Expansion → Row
+ComparedRow a b = Checked (common_checks (max (degree_of_value a) (degree_of_value b)) a b) (BothBrought (joined a.bases b.bases) a b)
+
+-- an equality: that, and then whether they agree, whatever bases they were over; there is no rule of sums
+abbrev pub EqualRow : Expansion → Expansion → Result Bool Refusal → Type 0
+EqualRow a b = EqualAfter (ComparedRow a b) (joined a.bases b.bases) a b
+
+-- Negation.
 
 -- the value with the other sign
 abbrev pub NegationRow : Expansion → Row
@@ -126,6 +155,22 @@ abbrev pub CounitRow : Place → Expansion → Row
 CounitRow at a =
     Checked (component_checks at (length a.bases))
     (Answers (without (position_of at) a.bases) (applied of_counit (position_of at) (reading_of a)))
+
+-- the antipode of a component, over the same bases: Rank, Component, the linear rule
+abbrev pub AntipodeRow : Place → Expansion → Row
+AntipodeRow at a =
+    Checked (component_checks at (length a.bases) ++ linear_checks a)
+    (Answers a.bases (applied of_antipode (position_of at) (reading_of a)))
+
+-- the commuting image of component n, counted from 0: where it is over QSym.M already, the value stays as it is, and nothing is tested; else the image is over QSym.M, after the linear rule
+abbrev pub CommuteAt : ℕ → Expansion → Row
+CommuteAt n a answer =
+    ((get_or a.bases n QsymM ≡ QsymM) × (answer ≡ Ok a))
+    ⊎ ((get_or a.bases n QsymM ≢ QsymM) × Checked (linear_checks a) (Answers (replaced n (QsymM ∷ []) a.bases) (applied of_commute n (reading_of a))) answer)
+
+-- the commuting image of a component: Rank, Component, and then that
+abbrev pub CommuteRow : Place → Expansion → Row
+CommuteRow at a = Checked (component_checks at (length a.bases)) (CommuteAt (position_of at) a)
 
 -- the product of two neighbours over bases with a join: both are converted to it, the first before the second; the linear rule of what they came to
 abbrev pub NeighbourProduct : List BasisId → List BasisId → BasisId → Expansion → Row

@@ -1,19 +1,22 @@
 //! Operations on one component of a value, and on two neighbours.
-ghost use Rattle.std.specs.Prelude.{◌≡◌, ◌+◌, ◌-◌, ◌≤◌, length, Err, IfOk, IfErr};
-ghost use Rattle.realisations.specs.Readings.{applied, mult as multiplied};
+ghost use Rattle.std.specs.Prelude.{◌≡◌, ◌+◌, ◌-◌, ◌≤◌, [], ◌∷◌, length, Ok, Err, IfOk, IfErr};
+ghost use Rattle.basis_names.specs.declared.bases.BasisId.TheVariants.{QsymM};
+ghost use Rattle.realisations.specs.Readings.{applied, commute as commuting, mult as multiplied};
 ghost use Rattle.hopf_laws.specs.Values.{IsValue, Expands, reading_of};
 ghost use Rattle.basis_routes.specs.Checks.{Tests};
 ghost use Rattle.basis_routes.specs.Conversions.{linear_checks};
-ghost use Rattle.basis_routes.specs.Lists.{doubled, without};
+ghost use Rattle.basis_routes.specs.Lists.{doubled, replaced, without};
 ghost use Rattle.basis_routes.specs.Rows.{OrMemory};
 ghost use Rattle.hopf_ops.specs.Answers.{AreJoined};
-ghost use Rattle.hopf_ops.specs.Operations.{CoproductRow, CounitRow, MultAt, MultRow};
+ghost use Rattle.hopf_ops.specs.Operations.{AntipodeRow, CommuteRow, CoproductRow, CounitRow, MultAt, MultRow};
 
 use crate::common::made_or_given;
 use basis_routes::{
-    Bases, Check, Place, Refusal, Value, component_of, converted_operand, coproduct_at, counit_at,
-    doubled_component_of, first_neighbour_of, join, product_at,
+    Bases, Check, Place, Refusal, Value, antipode_at, commuting_image_at, component_of,
+    converted_operand, coproduct_at, counit_at, doubled_component_of, first_neighbour_of, join,
+    product_at,
 };
+use hopf_laws::BasisId;
 use hopf_num::Need;
 use std::alloc::Global;
 
@@ -42,6 +45,62 @@ pub fn counit(alloc: Global, a: &Value, at: Place) -> Result<Value, Refusal>
 {
     let component = component_of(at, a.rank())?;
     match counit_at(alloc, a, component) {
+        Ok(value) => Ok(value),
+        Err(_) => Err(Refusal::Memory),
+    }
+}
+
+/// The antipode of a component, over the same bases.
+///
+/// Its checks, in order: where the component has no number, it is the only one (`Rank`); it is there (`Component`);
+/// the norm times 2^(5n), n the degree, has room (`TooLarge`). The cost is that of the antipodes of its codes, by the
+/// recursion over the coproduct (Takeuchi 1971), once for each index that it meets, and of sorting their terms.
+pub fn antipode(alloc: Global, a: &Value, at: Place) -> Result<Value, Refusal>
+    ensures { OrMemory (AntipodeRow at a.now) result }
+{
+    let component = component_of(at, a.rank())?;
+    test_linear(a)?;
+    match antipode_at(alloc, a, component) {
+        Ok(value) => Ok(value),
+        Err(_) => Err(Refusal::Memory),
+    }
+}
+
+/// The commuting image of a component, which comes to stand over `QSym.M`.
+///
+/// Its checks, in order: where the component has no number, it is the only one (`Rank`); it is there (`Component`).
+/// Where it is over `QSym.M` already, the answer is a copy of the value. Else the norm times 2^(5n), n the
+/// degree, has room (`TooLarge`). The cost is that of the commuting images of its codes, and of sorting their
+/// terms.
+pub fn commute(alloc: Global, a: &Value, at: Place) -> Result<Value, Refusal>
+    ensures { OrMemory (CommuteRow at a.now) result }
+{
+    let component = component_of(at, a.rank())?;
+    if a.basis(component) == BasisId::QsymM {
+        return copied(alloc, a);
+    }
+    commuting_image(alloc, a, component)
+}
+
+// The same value.
+fn copied(alloc: Global, a: &Value) -> Result<Value, Refusal>
+    ensures { OrMemory (λ answer. answer ≡ Ok a.now) result }
+{
+    match a.copy(alloc) {
+        Ok(copy) => Ok(copy),
+        Err(_) => Err(Refusal::Memory),
+    }
+}
+
+// The commuting image of a component, where the linear rule holds.
+fn commuting_image(alloc: Global, a: &Value, component: u32) -> Result<Value, Refusal>
+    requires first { 1 ≤ component }
+    requires last { component ≤ length a.now.bases }
+    ensures checks { Tests (linear_checks a.now) result }
+    ensures value { IfOk result (Expands (replaced (component - 1) (QsymM ∷ []) a.now.bases) (applied commuting (component - 1) (reading_of a.now))) }
+{
+    test_linear(a)?;
+    match commuting_image_at(alloc, a, component) {
         Ok(value) => Ok(value),
         Err(_) => Err(Refusal::Memory),
     }

@@ -6,6 +6,7 @@
 
 mod common;
 mod components;
+mod equality;
 mod gather;
 mod laws;
 mod multiples;
@@ -13,8 +14,9 @@ mod operator;
 mod products;
 mod sums;
 
-pub use components::{coproduct, counit, mult};
-pub use laws::row_law;
+pub use components::{antipode, commute, coproduct, counit, mult};
+pub use equality::equal;
+pub use laws::{convolution_law, row_law};
 pub use multiples::{divide, divided, negate, negated};
 pub use operator::Operator;
 pub use products::{tensor, times, times_by, times_onto};

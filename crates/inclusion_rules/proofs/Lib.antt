@@ -1,3 +1,4 @@
+pub mod CutPlaces
+pub mod Groups
 pub mod InclusionsExist
 pub mod SumsOver
-pub mod TreeDescents

@@ -2,15 +2,17 @@
 //! sum of the elements of a finer basis whose indices lie over its index.
 #![tactic(auto)]
 
+mod descents;
 mod inclusions;
 mod laws;
 mod permutations;
 mod ribbons;
+mod standard_tableaux;
+mod table;
 #[cfg(test)]
 mod tests;
-mod tree_descents;
 mod trees;
 
+pub use descents::{descents_of_tableau, descents_of_tree};
 pub use inclusions::{ByInclusion, InclusionIn};
 pub use laws::inclusions_exist_law;
-pub use tree_descents::descents_of_tree;

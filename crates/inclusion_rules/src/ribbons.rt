@@ -2,14 +2,15 @@
 ghost use Rattle.std.proofs.Common.{arith};
 ghost use Rattle.std.specs.Prelude.{◌≡◌, refl};
 ghost use Rattle.inclusion_laws.proofs.InclusionsOfClasses.{ribbons_included};
-ghost use Rattle.inclusion_laws.specs.DescentsOfIndices.{descents_of_tree as tree_descents};
+ghost use Rattle.inclusion_laws.specs.DescentsOfIndices.{descents_of_tableau as tableau_descents, descents_of_tree as tree_descents};
 ghost use Rattle.realisations.specs.Descents.{descent_composition as descents_of};
 ghost use Rattle.realisations.specs.Standardisation.{inverse as inverse_of};
 
+use crate::descents::{descents_of_tableau, descents_of_tree};
 use crate::inclusions::InclusionIn;
 use crate::permutations::inverse;
-use crate::tree_descents::descents_of_tree;
 use fqsym::{FqsymF, FqsymG};
+use fsym::FsymS;
 use hopf_num::OutOfMemory;
 use linear_combos::Code;
 use ncsf::NcsfR;
@@ -59,6 +60,21 @@ impl InclusionIn<PbtP> for NcsfR {
     }
 
     ghost inclusion = { ribbons_included.in_pbt };
+
+    ghost same_kind = { refl };
+
+    ghost small = { omega arith };
+}
+
+/// A ribbon is the sum of S of the tableaux with these descents (Poirier, Reutenauer 1995).
+impl InclusionIn<FsymS> for NcsfR {
+    ghost image = { λ code. tableau_descents code };
+
+    fn image_of(_alloc: Global, code: &Code) -> Result<Code, OutOfMemory> {
+        Ok(descents_of_tableau(code))
+    }
+
+    ghost inclusion = { ribbons_included.in_fsym };
 
     ghost same_kind = { refl };
 

@@ -4,8 +4,9 @@ use Rattle.std.specs.Prelude.{unwrap_or}
 use Rattle.realisations.specs.Bases.{kind_of}
 use Rattle.realisations.specs.Laws.{IsDoubled}
 use Rattle.realisations.specs.Points.{Kind}
-use Rattle.realisations.specs.Readings.{coproduct, counit, mult, kinds_after_at}
+use Rattle.realisations.specs.Readings.{coproduct, counit, mult, commute, kinds_after_at}
 use Rattle.basis_names.specs.declared.bases.BasisId.{BasisId}
+use Rattle.basis_names.specs.declared.bases.BasisId.TheVariants.{QsymM}
 use Rattle.basis_routes.specs.declared.checks.Check.TheVariants.{Joined}
 use Rattle.basis_routes.specs.Checks.{Passes}
 use Rattle.basis_routes.specs.JoinTable.{join_of}
@@ -25,6 +26,12 @@ kinds-without zero [] = refl
 kinds-without zero (basis ∷ bases) = refl
 kinds-without (suc n) [] = refl
 kinds-without (suc n) (basis ∷ bases) = ap (λ (ks : List Kind). kind_of basis ∷ ks) (kinds-without n bases)
+
+-- a component over QSym.M has the kind of its commuting image
+pub kinds-kept : (n : ℕ) (bases : List BasisId) → n < length bases → get_or bases n QsymM ≡ QsymM → kinds_after_at n commute (map kind_of bases) ≡ map kind_of bases
+kinds-kept n [] there same = absurd (omega (arith, there))
+kinds-kept zero (basis ∷ bases) there same = ap (λ (b : BasisId). kind_of b ∷ map kind_of bases) (sym same)
+kinds-kept (suc n) (basis ∷ bases) there same = ap (λ (ks : List Kind). kind_of basis ∷ ks) (kinds-kept n bases (omega (arith, there)) same)
 
 -- a component over another basis of its kind
 pub kinds-replaced : (n : ℕ) (bases : List BasisId) (to : BasisId) → n < length bases → kind_of (get_or bases n to) ≡ kind_of to → map kind_of (replaced n (to ∷ []) bases) ≡ map kind_of bases

@@ -26,7 +26,7 @@ use Rattle.session_evaluation.specs.Names.{Names, AreValues}
 use Rattle.session_evaluation.proofs.BuiltForms.{built_number-inv, built_conversion-inv, built_function-inv, built_sum-parts, built_tensor-parts, built_product-parts}
 use Rattle.session_evaluation.proofs.KnownNames.{known_value}
 use Rattle.basis_routes.proofs.ValueRows.{answers_value}
-use Rattle.session_evaluation.proofs.RowValues.{operator_value, conversion_value, coproduct_value, counit_value, mult_value}
+use Rattle.session_evaluation.proofs.RowValues.{operator_value, conversion_value, coproduct_value, antipode_value, counit_value, mult_value, commute_value}
 use Rattle.session_evaluation.proofs.SpelledElements.{spelled_within}
 
 -- The terms that are one term.
@@ -125,19 +125,22 @@ converted_value at to a v value h = elim (conversion_value at to a v h) [
 ]
 
 -- So is a function on a component of one.
-mapped_value : (map : Linear) (at : Place) (a v : Expansion) → LinearRow map at a (Ok v) → IsValue v
-mapped_value Coproduct at a v h = (coproduct_value at a v h).value
-mapped_value Antipode at a v h = absurd h
-mapped_value Counit at a v h = (counit_value at a v h).value
-mapped_value Mult at a v h = (mult_value at a v h).expands.value
-mapped_value Commute at a v h = absurd h
+mapped_value : (map : Linear) (at : Place) (a v : Expansion) → IsValue a → LinearRow map at a (Ok v) → IsValue v
+mapped_value Coproduct at a v value h = (coproduct_value at a v h).value
+mapped_value Antipode at a v value h = (antipode_value at a v h).1.value
+mapped_value Counit at a v value h = (counit_value at a v h).value
+mapped_value Mult at a v value h = (mult_value at a v h).expands.value
+mapped_value Commute at a v value h = elim (commute_value at a v h).1 [
+  | inl stays ↦ subst IsValue (sym stays.1) value
+  | inr expands ↦ expands.value
+]
 
 -- A conversion of a good answer is good, and so is a function on a component of one.
 pub conversion_good : (at : Place) (to : BasisId) (operand answer : Answer) → IsGood operand → ActsOn (ConversionRow at to) operand answer → IsGood answer
 conversion_good at to operand answer good h = acts_good (ConversionRow at to) operand answer (converted_value at to) good h
 
 pub function_good : (map : Linear) (at : Place) (operand answer : Answer) → IsGood operand → ActsOn (LinearRow map at) operand answer → IsGood answer
-function_good map at operand answer good h = acts_good (LinearRow map at) operand answer (λ a v value. mapped_value map at a v) good h
+function_good map at operand answer good h = acts_good (LinearRow map at) operand answer (mapped_value map at) good h
 
 module _ (names : Names) (values : AreValues names) where
   -- What a built expression comes to is good, and so is what its later operands leave.

@@ -1,4 +1,5 @@
 pub mod BuiltForms
+pub mod Comparisons
 pub mod ComponentKinds
 pub mod EvaluationSteps
 pub mod EvaluationsExist

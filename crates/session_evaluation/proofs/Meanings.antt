@@ -1,6 +1,6 @@
 -- The value of an expression reads as the expression means.
-use Rattle.std.proofs.Common.{◌≡◌, ◌≢◌, inl, inr, ℕ, zero, suc, ◌+◌, ◌*◌, ◌≤◌, Bool, true, false, ◌||◌, Ok, Err, List, [], ◌∷◌, ◌++◌, map, length, take, drop, refl, sym, ◌∙◌, ap, subst, arith, unsigned_abs}
-use Rattle.std.specs.Prelude.{if◌then◌else◌, nat_eq, max}
+use Rattle.std.proofs.Common.{◌≡◌, ◌≢◌, inl, inr, ℕ, zero, suc, ◌+◌, ◌*◌, ◌<◌, ◌≤◌, Bool, true, false, ◌||◌, Ok, Err, List, [], ◌∷◌, ◌++◌, map, length, take, drop, refl, sym, ◌∙◌, ap, subst, arith, unsigned_abs}
+use Rattle.std.specs.Prelude.{if◌then◌else◌, nat_eq, max, get_or}
 use Rattle.std.specs.List.{All}
 use Rattle.std.proofs.Math.IntN.{ℤ, pos, negsuc, ◌*ℤ◌}
 use Rattle.std.proofs.Math.Nat.{mul-pos}
@@ -11,11 +11,12 @@ use Rattle.hopf_num.specs.Fractions.{Ratio, reciprocal}
 use Rattle.hopf_num.proofs.Reciprocals.{reciprocal_agrees, ratio_nonzero}
 use Rattle.realisations.specs.Points.{Kind, ArePoints}
 use Rattle.realisations.specs.Bases.{kind_of}
-use Rattle.realisations.specs.Readings.{Reading, Operation, applied as applied_reading, coproduct, counit, mult, element, product, tensor, sum_of, multiple, kinds_of, kinds_after_at, denominator, AgreeAt}
+use Rattle.realisations.specs.Readings.{Reading, Operation, applied as applied_reading, coproduct, antipode, counit, mult, commute, element, product, tensor, sum_of, multiple, kinds_of, kinds_after_at, denominator, AgreeAt}
 use Rattle.realisations.proofs.TuplesOfPoints.{points_split}
 use Rattle.realisations.specs.Laws.{IsDoubled}
 use Rattle.realisations.proofs.Agreement.{agree_trans, sum_agrees, multiple_agrees, tensor_agrees, product_agrees}
 use Rattle.basis_names.specs.declared.bases.BasisId.{BasisId}
+use Rattle.basis_names.specs.declared.bases.BasisId.TheVariants.{QsymM}
 use Rattle.session_tokens.specs.declared.lexeme.Linear.{Linear}
 use Rattle.session_tokens.specs.declared.lexeme.Linear.TheVariants.{Coproduct, Antipode, Counit, Mult, Commute}
 use Rattle.hopf_laws.specs.Bases.{least_limit}
@@ -24,14 +25,16 @@ use Rattle.basis_routes.specs.declared.checks.Check.TheVariants.{SameRank, Scala
 use Rattle.basis_routes.specs.Checks.{Passes}
 use Rattle.basis_routes.specs.Joins.{joined, join_checks}
 use Rattle.basis_routes.proofs.JoinedKinds.{joined_kinds}
+use Rattle.basis_routes.proofs.ComponentsExist.{kinds-antipode, kinds-commuted}
 use Rattle.basis_routes.proofs.ConversionRows.{component_within}
+use Rattle.basis_routes.proofs.ImagesOfMonomials.{image_agrees}
 use Rattle.basis_routes.proofs.Rows.{passes_earlier}
 use Rattle.basis_routes.proofs.ValueRows.{answers_value}
 use Rattle.basis_routes.specs.declared.place.Place.{Place}
 use Rattle.basis_routes.specs.Conversions.{ConversionRow}
 use Rattle.basis_routes.specs.Places.{position_of}
 use Rattle.basis_routes.specs.Rows.{Row}
-use Rattle.hopf_ops.specs.Operations.{has_scalar, common_checks, NegationRow, ProductBy, RowOf}
+use Rattle.hopf_ops.specs.Operations.{has_scalar, common_checks, NegationRow, ProductBy, RowOf, CommuteRow}
 use Rattle.session_grammar.specs.declared.expression.Expr.{Expr}
 use Rattle.session_grammar.specs.declared.expression.Factor.{Factor}
 use Rattle.session_grammar.specs.declared.expression.Place.{Place as SourcePlace}
@@ -44,9 +47,9 @@ use Rattle.session_evaluation.specs.Evaluation.{Answer, number_value, Allows, Op
 use Rattle.session_evaluation.specs.Meaning.{number, signed, Means, number_means, element_means, name_means, conversion_means, function_means, sum_means, tensor_means, product_means, Combine, combined_all, combine, IsMeant}
 use Rattle.session_evaluation.specs.Functions.{operation_of, place_of, LinearRow}
 use Rattle.hopf_ops.proofs.AppliedReadings.{applied_agrees}
-use Rattle.session_evaluation.proofs.ComponentKinds.{kinds-doubled, kinds-without, kinds-replaced, kinds-multiplied, neighbours_alike}
+use Rattle.session_evaluation.proofs.ComponentKinds.{kinds-doubled, kinds-without, kinds-kept, kinds-replaced, kinds-multiplied, neighbours_alike}
 use Rattle.session_evaluation.proofs.KnownNames.{known_value}
-use Rattle.session_evaluation.proofs.RowValues.{IsMultiplied, sum_value, component_value, product_value, tensor_value, quotient_value, conversion_value, coproduct_value, counit_value, mult_value}
+use Rattle.session_evaluation.proofs.RowValues.{IsMultiplied, sum_value, component_value, product_value, tensor_value, quotient_value, conversion_value, coproduct_value, antipode_value, counit_value, mult_value, commute_value}
 use Rattle.session_grammar.specs.declared.expression.Expr.TheVariants as e
 use Rattle.hopf_ops.specs.ReadingOperations.{negative, is_scalar, ratio, quotient}
 use Rattle.hopf_ops.specs.ReadingOperations.{combined}
@@ -152,7 +155,7 @@ answer_alike : (bases : List BasisId) (q r : Reading) (v : Expansion) → kinds_
 answer_alike bases q r v kinds alike expands = alike_trans (reading_of v) q r (expands_alike bases q v kinds alike.left expands) alike
 
 -- values that pass their common checks have the same kinds, and so have their joined bases
-common_kinds : (degree : ℕ) (a b : Expansion) → All Passes (common_checks degree a b)
+pub common_kinds : (degree : ℕ) (a b : Expansion) → All Passes (common_checks degree a b)
     → (kinds_over a.bases ≡ kinds_over b.bases) × (kinds_over a.bases ≡ kinds_over (joined a.bases b.bases))
 common_kinds degree a b pass =
     let within = DegreeWithin degree (least_limit (joined a.bases b.bases)) in
@@ -260,17 +263,43 @@ multiplied_alike n a v r alike made =
     (applied_alike mult (length made.before) (reading_of a) r (λ is. subst (λ bases. IsDoubled (length made.before) (kinds_over bases)) (sym made.bases) (neighbours_alike made.before made.left made.right made.after made.join)) alike)
     made.expands)
 
+-- a value over QSym.M at a component is like its commuting image there
+image_alike : (n : ℕ) (a : Expansion) → 1 ≤ denominator (reading_of a) → n < length a.bases → get_or a.bases n QsymM ≡ QsymM → Alike (reading_of a) (applied_reading commute n (reading_of a))
+image_alike n a positive there same = record {
+  kinds = sym (kinds-kept n a.bases there same);
+  left = positive;
+  right = positive;
+  agree = λ ps points. image_agrees n a ps there same points;
+}
+
+-- the commuting image of a component
+commuted_alike : (at : Place) (a v : Expansion) (r : Reading) → Alike (reading_of a) r → CommuteRow at a (Ok v) → Alike (reading_of v) (applied_reading commute (position_of at) r)
+commuted_alike at a v r alike h =
+    let n : ℕ = position_of at in
+    let parts = commute_value at a v h in
+    let there = component_within at (length a.bases) parts.0 in
+    let images = applied_alike commute n (reading_of a) r (λ is. absurd (cc)) alike in
+    elim parts.1 [
+      | inl stays ↦ subst (λ (w : Expansion). Alike (reading_of w) (applied_reading commute n r)) (sym stays.1)
+          (alike_trans (reading_of a) (applied_reading commute n (reading_of a)) (applied_reading commute n r) (image_alike n a alike.left there stays.0) images)
+      | inr expands ↦ answer_alike _ (applied_reading commute n (reading_of a)) (applied_reading commute n r) v (sym (kinds-commuted n a.bases there)) images expands
+    ]
+
 -- a function on a component is like what it means
 function_alike : (map : Linear) (at : Place) (a v : Expansion) (r : Reading) → Alike (reading_of a) r → LinearRow map at a (Ok v) → Alike (reading_of v) (applied_reading (operation_of map) (position_of at) r)
 function_alike Coproduct at a v r alike h =
     answer_alike _ (applied_reading coproduct (position_of at) (reading_of a)) (applied_reading coproduct (position_of at) r) v (kinds-doubled (position_of at) a.bases)
     (applied_alike coproduct (position_of at) (reading_of a) r (λ is. absurd (cc)) alike) (coproduct_value at a v h)
-function_alike Antipode at a v r alike h = absurd h
+function_alike Antipode at a v r alike h =
+    let parts = antipode_value at a v h in
+    answer_alike _ (applied_reading antipode (position_of at) (reading_of a)) (applied_reading antipode (position_of at) r) v
+    (sym (kinds-antipode (position_of at) a.bases (component_within at (length a.bases) parts.0)))
+    (applied_alike antipode (position_of at) (reading_of a) r (λ is. absurd (cc)) alike) parts.1
 function_alike Counit at a v r alike h =
     answer_alike _ (applied_reading counit (position_of at) (reading_of a)) (applied_reading counit (position_of at) r) v (kinds-without (position_of at) a.bases)
     (applied_alike counit (position_of at) (reading_of a) r (λ is. absurd (cc)) alike) (counit_value at a v h)
 function_alike Mult at a v r alike h = multiplied_alike (position_of at) a v r alike (mult_value at a v h)
-function_alike Commute at a v r alike h = absurd h
+function_alike Commute at a v r alike h = commuted_alike at a v r alike h
 
 -- a number as a value is like the number
 number_alike : (n : ℕ) → Alike (reading_of (number_value n)) (number n)

@@ -10,12 +10,15 @@ use Rattle.basis_routes.specs.declared.place.Place.{Place}
 use Rattle.basis_routes.specs.Conversions.{ConversionRow}
 use Rattle.basis_routes.specs.Laws.{ConversionLaw}
 use Rattle.basis_routes.specs.Rows.{Row, Answer}
-use Rattle.hopf_ops.specs.Laws.{OperatorLaw, NegationLaw, CoproductLaw, CounitLaw, MultLaw}
+use Rattle.hopf_ops.specs.Laws.{OperatorLaw, NegationLaw, CoproductLaw, AntipodeLaw, CounitLaw, MultLaw, CommuteLaw, EqualLaw}
 use Rattle.hopf_ops.specs.Operations.{NegationRow}
 use Rattle.session_evaluation.specs.Functions.{LinearRow}
 use Rattle.basis_routes.proofs.ConversionRows.{conversions_decide}
+use Rattle.hopf_ops.proofs.AntipodeRows.{antipodes_decide}
+use Rattle.hopf_ops.proofs.CommuteRows.{commutes_decide}
 use Rattle.hopf_ops.proofs.CoproductRows.{coproducts_decide}
 use Rattle.hopf_ops.proofs.CounitRows.{counits_decide}
+use Rattle.hopf_ops.proofs.EqualRows.{equals_decide}
 use Rattle.hopf_ops.proofs.MultRows.{mults_decide}
 use Rattle.hopf_ops.proofs.NegationRows.{negations_decide}
 use Rattle.hopf_ops.proofs.OperatorRows.{operators_decide}
@@ -25,8 +28,11 @@ pub record RowLaws : Type 0 where
   pub operator : OperatorLaw
   pub negation : NegationLaw
   pub coproduct : CoproductLaw
+  pub antipode : AntipodeLaw
   pub counit : CounitLaw
   pub mult : MultLaw
+  pub commute : CommuteLaw
+  pub equal : EqualLaw
   pub conversion : ConversionLaw
 
 pub row_laws : RowLaws
@@ -34,8 +40,11 @@ row_laws = record {
   operator = operators_decide;
   negation = negations_decide;
   coproduct = coproducts_decide;
+  antipode = antipodes_decide;
   counit = counits_decide;
   mult = mults_decide;
+  commute = commutes_decide;
+  equal = equals_decide;
   conversion = conversions_decide;
 }
 
@@ -52,7 +61,7 @@ conversion_acts laws at to built = record { once = λ a value. (laws.conversion 
 
 pub function_acts : RowLaws → (map : Linear) (at : Place) → IsTrue (is_built_map map) → ActsOnce (LinearRow map at)
 function_acts laws Coproduct at built = record { once = λ a value. (laws.coproduct at a value).once; some = λ a value. (laws.coproduct at a value).some }
-function_acts laws Antipode at built = absurd (cc)
+function_acts laws Antipode at built = record { once = λ a value. (laws.antipode at a value).once; some = λ a value. (laws.antipode at a value).some }
 function_acts laws Counit at built = record { once = λ a value. (laws.counit at a value).once; some = λ a value. (laws.counit at a value).some }
 function_acts laws Mult at built = record { once = λ a value. (laws.mult at a value).once; some = λ a value. (laws.mult at a value).some }
-function_acts laws Commute at built = absurd (cc)
+function_acts laws Commute at built = record { once = λ a value. (laws.commute at a value).once; some = λ a value. (laws.commute at a value).some }

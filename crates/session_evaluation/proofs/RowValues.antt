@@ -1,9 +1,10 @@
 -- What is known where a row allows a value: which checks passed, and what the value reads as.
 use Rattle.std.proofs.Common.{◌≡◌, ◌⊎◌, ℕ, ◌+◌, ◌*◌, inl, inr, Bool, true, false, if◌then◌else◌, List, [], ◌∷◌, ◌++◌, All, length, Ok, arith}
-use Rattle.std.specs.Prelude.{max, unwrap_or}
+use Rattle.std.specs.Prelude.{max, get_or, unwrap_or}
 use Rattle.hopf_num.specs.Divisors.{IsLcm}
-use Rattle.realisations.specs.Readings.{Reading, applied, coproduct, counit, mult, product, tensor}
+use Rattle.realisations.specs.Readings.{Reading, applied, coproduct, antipode, counit, mult, commute, product, tensor}
 use Rattle.basis_names.specs.declared.bases.BasisId.{BasisId}
+use Rattle.basis_names.specs.declared.bases.BasisId.TheVariants.{QsymM}
 use Rattle.hopf_laws.specs.Bases.{least_limit}
 use Rattle.hopf_laws.specs.Values.{Expansion, Expands, reading_of, degree_of_value}
 use Rattle.basis_routes.specs.declared.checks.Check.{Check}
@@ -16,10 +17,11 @@ use Rattle.basis_routes.specs.Joins.{joined}
 use Rattle.basis_routes.specs.Lists.{replaced, doubled, without}
 use Rattle.basis_routes.specs.Places.{position_of, component_checks, doubling_checks, neighbour_checks}
 use Rattle.basis_routes.specs.Rows.{Checked, Answers}
+use Rattle.basis_routes.proofs.Rows.{passes_earlier}
 use Rattle.basis_routes.proofs.ValueRows.{checked_value, answers_value, both_convert_value}
 use Rattle.hopf_ops.specs.declared.operator.Operator.{Operator}
 use Rattle.hopf_ops.specs.declared.operator.Operator.TheVariants.{Plus, Minus, Hash, Times, Over}
-use Rattle.hopf_ops.specs.Operations.{common_checks, sum_room, SumOver, SumRow, product_room, ProductOver, ComponentRow, ProductBy, has_scalar, tensor_checks, quotient_checks, RowOf, result_bases, CoproductRow, CounitRow, NeighbourProduct, MultAt, MultRow}
+use Rattle.hopf_ops.specs.Operations.{common_checks, sum_room, SumOver, SumRow, product_room, ProductOver, ComponentRow, ProductBy, has_scalar, tensor_checks, quotient_checks, RowOf, result_bases, CoproductRow, AntipodeRow, CounitRow, NeighbourProduct, MultAt, MultRow, CommuteAt, CommuteRow}
 use Rattle.hopf_ops.specs.ReadingOperations.{sum_or_difference, quotient, combined}
 
 -- checks, and then the answer
@@ -85,10 +87,31 @@ pub coproduct_value : (at : Place) (a w : Expansion) → CoproductRow at a (Ok w
 coproduct_value at a w h =
     (answered (doubling_checks at (length a.bases) ++ linear_checks a) (doubled (position_of at) a.bases) (applied coproduct (position_of at) (reading_of a)) w h).1
 
+-- the antipode of a component
+pub antipode_value : (at : Place) (a w : Expansion) → AntipodeRow at a (Ok w)
+    → All Passes (component_checks at (length a.bases)) × Expands a.bases (applied antipode (position_of at) (reading_of a)) w
+antipode_value at a w h =
+    let there = component_checks at (length a.bases) in
+    let parts = answered (there ++ linear_checks a) a.bases (applied antipode (position_of at) (reading_of a)) w h in
+    (passes_earlier there (linear_checks a) parts.0, parts.1)
+
 -- the counit of a component
 pub counit_value : (at : Place) (a w : Expansion) → CounitRow at a (Ok w) → Expands (without (position_of at) a.bases) (applied counit (position_of at) (reading_of a)) w
 counit_value at a w h =
     (answered (component_checks at (length a.bases)) (without (position_of at) a.bases) (applied counit (position_of at) (reading_of a)) w h).1
+
+-- the commuting image of a component: over QSym.M the value stays, and else it has its image there
+image_value : (n : ℕ) (a w : Expansion) → CommuteAt n a (Ok w)
+    → ((get_or a.bases n QsymM ≡ QsymM) × (w ≡ a)) ⊎ Expands (replaced n (QsymM ∷ []) a.bases) (applied commute n (reading_of a)) w
+image_value n a w (inl (same, is)) = inl (same, cc)
+image_value n a w (inr (other, h)) = inr (answered (linear_checks a) (replaced n (QsymM ∷ []) a.bases) (applied commute n (reading_of a)) w h).1
+
+pub commute_value : (at : Place) (a w : Expansion) → CommuteRow at a (Ok w)
+    → All Passes (component_checks at (length a.bases))
+    × (((get_or a.bases (position_of at) QsymM ≡ QsymM) × (w ≡ a)) ⊎ Expands (replaced (position_of at) (QsymM ∷ []) a.bases) (applied commute (position_of at) (reading_of a)) w)
+commute_value at a w h =
+    let parts = checked_value (component_checks at (length a.bases)) (CommuteAt (position_of at) a) w h in
+    (parts.0, image_value (position_of at) a w parts.1)
 
 -- the product of a component and the next one
 pub record IsMultiplied (n : ℕ) (a w : Expansion) : Type 0 where

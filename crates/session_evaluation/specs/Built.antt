@@ -37,3 +37,4 @@ pub data IsBuiltStatement : Statement → Type 0 where
   nothing : IsBuiltStatement s.Empty
   printed : {x : Expr} → IsBuilt x → IsBuiltStatement (s.Print x)
   assigned : {name : List ℕ} {x : Expr} → IsBuilt x → IsBuiltStatement (s.Assign name x)
+  compared : {x y : Expr} → IsBuilt x → IsBuilt y → IsBuiltStatement (s.Equal x y)

@@ -12,7 +12,7 @@ use Rattle.basis_routes.specs.Conversions.{ConversionRow}
 use Rattle.basis_routes.specs.Rows.{Row}
 use Rattle.hopf_ops.specs.declared.operator.Operator.{Operator}
 use Rattle.hopf_ops.specs.declared.operator.Operator.TheVariants.{Plus, Minus, Hash, Times, Over}
-use Rattle.hopf_ops.specs.Operations.{RowOf, NegationRow}
+use Rattle.hopf_ops.specs.Operations.{RowOf, NegationRow, EqualRow}
 use Rattle.session_grammar.specs.declared.expression.Expr.{Expr}
 use Rattle.session_grammar.specs.declared.expression.Factor.{Factor}
 use Rattle.session_grammar.specs.declared.expression.Place.{Place}
@@ -28,7 +28,7 @@ abbrev pub Answer : Type 0
 Answer = Result Expansion EvaluationRefusal
 
 -- want of memory, which may come at any time, or an answer of which this holds
-abbrev pub OrMemory : (Answer → Type 0) → Answer → Type 0
+abbrev pub OrMemory : {T : Type 0} → (Result T EvaluationRefusal → Type 0) → Result T EvaluationRefusal → Type 0
 OrMemory P answer = (answer ≡ Err (refusal.Value value.Memory)) ⊎ P answer
 
 -- the scalar that a number is
@@ -40,13 +40,13 @@ abbrev pub element_value : BasisId → List ℕ → Expansion
 element_value basis code = record { bases = basis ∷ []; combination = record { rank = 1; den = 1; terms = (pos 1, code ∷ []) ∷ [] } }
 
 -- the refusal of an operation is that of its statement
-abbrev pub told : Result Expansion Refusal → Answer
+abbrev pub told : {T : Type 0} → Result T Refusal → Result T EvaluationRefusal
 told (Ok v) = Ok v
 told (Err r) = Err (refusal.Value r)
 
 -- an operation answers what its row allows
-abbrev pub Allows : Row → Answer → Type 0
-Allows Allowed answer = (r : Result Expansion Refusal) × Allowed r × (answer ≡ told r)
+abbrev pub Allows : {T : Type 0} → (Result T Refusal → Type 0) → Result T EvaluationRefusal → Type 0
+Allows {T = T} Allowed answer = (r : Result T Refusal) × Allowed r × (answer ≡ told r)
 
 -- an operation on two values
 abbrev pub Operates : Operator → Expansion → Expansion → Answer → Type 0
@@ -105,3 +105,9 @@ mutual
     refused : {r : EvaluationRefusal} {o : Operator} {x : Expr} {steps : Steps} → Folds names (Err r) ((o, x) ∷ steps) (Err r)
     step : {a : Expansion} {o : Operator} {x : Expr} {operand next answer : Answer} {steps : Steps} → Evaluates names x operand → Applies o a operand next
         → Folds names next steps answer → Folds names (Ok a) ((o, x) ∷ steps) answer
+
+-- An equality of two expressions is true or false, or refused, in the names of a session: the first expression is evaluated, then the second, and then their values are compared; the first refusal is the answer.
+pub data Compares (names : Names) (x y : Expr) : Result Bool EvaluationRefusal → Type 0 where
+  first_refused : {r : EvaluationRefusal} → Evaluates names x (Err r) → Compares names x y (Err r)
+  second_refused : {a : Expansion} {r : EvaluationRefusal} → Evaluates names x (Ok a) → Evaluates names y (Err r) → Compares names x y (Err r)
+  compared : {a b : Expansion} {answer : Result Bool EvaluationRefusal} → Evaluates names x (Ok a) → Evaluates names y (Ok b) → Allows (EqualRow a b) answer → Compares names x y answer

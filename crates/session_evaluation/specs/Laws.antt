@@ -1,13 +1,13 @@
 -- Laws of meanings.
-use Rattle.std.specs.Prelude.{◌≡◌, Ok, map}
+use Rattle.std.specs.Prelude.{◌≡◌, Bool, Ok, map}
 use Rattle.realisations.specs.Bases.{kind_of}
 use Rattle.realisations.specs.Points.{ArePoints, Points}
 use Rattle.realisations.specs.Readings.{Reading, AgreeAt}
 use Rattle.hopf_laws.specs.Values.{Expansion}
 use Rattle.session_grammar.specs.declared.expression.Expr.{Expr}
 use Rattle.session_evaluation.specs.Built.{IsBuilt}
-use Rattle.session_evaluation.specs.Evaluation.{Evaluates}
-use Rattle.session_evaluation.specs.Meaning.{Means, IsMeant}
+use Rattle.session_evaluation.specs.Evaluation.{Evaluates, Compares}
+use Rattle.session_evaluation.specs.Meaning.{Means, IsMeant, TellsSame}
 use Rattle.session_evaluation.specs.Names.{Names, AreValues}
 
 -- an expression means at most one reading
@@ -23,3 +23,7 @@ abbrev pub SameMeaning : Type 0
 SameMeaning = (names names' : Names) (x y : Expr) (v w : Expansion) (r s : Reading) → AreValues names → AreValues names' → IsBuilt x → IsBuilt y
     → Evaluates names x (Ok v) → Evaluates names' y (Ok w) → Means names x r → Means names' y s
     → v.bases ≡ w.bases → ((ps : Points) → ArePoints (map kind_of v.bases) ps → AgreeAt r s ps) → v ≡ w
+
+-- an equality that is not refused tells whether its expressions mean the same, whatever bases their parts were entered in
+abbrev pub EqualityMeaning : Type 0
+EqualityMeaning = (names : Names) (x y : Expr) (answer : Bool) → AreValues names → Compares names x y (Ok answer) → TellsSame names x y answer

@@ -1,9 +1,9 @@
 -- What an expression means: a reading, whatever bases its parts were entered in.
-use Rattle.std.specs.Prelude.{◌≡◌, ◌≤◌, ℕ, pos, Bool, List, [], ◌∷◌, Some, map, if◌then◌else◌}
+use Rattle.std.specs.Prelude.{◌≡◌, ◌≤◌, ◌↔◌, ℕ, pos, Bool, IsTrue, List, [], ◌∷◌, Some, map, if◌then◌else◌}
 use Rattle.realisations.specs.Codes.{Code}
 use Rattle.realisations.specs.Bases.{kind_of}
 use Rattle.realisations.specs.Points.{ArePoints, Points}
-use Rattle.realisations.specs.Readings.{Reading, leaf, applied, element, denominator, AgreeAt}
+use Rattle.realisations.specs.Readings.{Reading, leaf, applied, element, denominator, kinds_of, AgreeAt}
 use Rattle.basis_names.specs.declared.bases.BasisId.{BasisId}
 use Rattle.session_tokens.specs.declared.lexeme.Lexeme.{Lexeme}
 use Rattle.session_tokens.specs.declared.lexeme.Linear.{Linear}
@@ -56,3 +56,14 @@ pub record IsMeant (names : Names) (x : Expr) (v : Expansion) : Type 0 where
   pub means : Means names x meaning
   pub positive : 1 ≤ denominator meaning
   pub reads : (ps : Points) → ArePoints (map kind_of v.bases) ps → AgreeAt (reading_of v) meaning ps
+
+-- two expressions have meanings, over positive denominators and at points of the same kinds, and these agree at all tuples of points exactly where the answer is true
+pub record TellsSame (names : Names) (x y : Expr) (answer : Bool) : Type 0 where
+  pub first : Reading
+  pub second : Reading
+  pub means_first : Means names x first
+  pub means_second : Means names y second
+  pub positive_first : 1 ≤ denominator first
+  pub positive_second : 1 ≤ denominator second
+  pub kinds : kinds_of first ≡ kinds_of second
+  pub tells : IsTrue answer ↔ ((ps : Points) → ArePoints (kinds_of first) ps → AgreeAt first second ps)

@@ -5,7 +5,8 @@ ghost use Rattle.built_forms.specs.Forms.{is_built_map};
 ghost use Rattle.basis_routes.specs.Conversions.{ConversionRow};
 ghost use Rattle.session_grammar.specs.declared.expression.Expr.{size-Expr};
 ghost use Rattle.session_evaluation.specs.Built.{IsBuilt};
-ghost use Rattle.session_evaluation.specs.Evaluation.{told, OrMemory, number_value, Allows, Operates, Signs, Evaluates};
+ghost use Rattle.session_evaluation.specs.Evaluation.{told, OrMemory, number_value, Allows, Operates, Signs, Evaluates, Compares};
+ghost use Rattle.hopf_ops.specs.Operations.{EqualRow};
 ghost use Rattle.session_evaluation.specs.EvaluationSteps.{held, answer_of, is_minus, steps_of};
 ghost use Rattle.session_evaluation.specs.Functions.{place_of, LinearRow};
 
@@ -15,8 +16,8 @@ use basis_names::BasisId;
 use basis_routes::{Place as ValuePlace, Refusal, Value, convert};
 use hopf_num::OutOfMemory;
 use hopf_ops::{
-    Operator, add, add_to, coproduct, counit, divide, divided, mult, negate, negated, sub,
-    sub_from, tensor, times, times_by, times_onto,
+    Operator, add, add_to, antipode, commute, coproduct, counit, divide, divided, equal, mult,
+    negate, negated, sub, sub_from, tensor, times, times_by, times_onto,
 };
 use linear_combos::{Combo, Key};
 use session_grammar::{Expr, Factor, Place, Signed};
@@ -240,9 +241,10 @@ fn mapped(alloc: Global, map: Linear, a: &Value, at: Place) -> Result<Value, Eva
 {
     match map {
         Linear::Coproduct => told_of(coproduct(alloc, a, component(at))),
+        Linear::Antipode => told_of(antipode(alloc, a, component(at))),
         Linear::Counit => told_of(counit(alloc, a, component(at))),
         Linear::Mult => told_of(mult(alloc, a, component(at))),
-        Linear::Antipode | Linear::Commute => unreachable!(),
+        Linear::Commute => told_of(commute(alloc, a, component(at))),
     }
 }
 
@@ -386,4 +388,31 @@ pub fn value_of(alloc: Global, names: &Names, x: &Expr) -> Result<Value, Evaluat
         Expr::Sum(_) | Expr::Tensor(_) | Expr::Product(_) => value_of_operation(alloc, names, x),
         Expr::Pair(_, _) | Expr::Along { .. } => unreachable!(),
     }
+}
+
+// Whether two values are equal.
+fn compared(alloc: Global, a: &Value, b: &Value) -> Result<bool, EvaluationRefusal>
+    ensures { OrMemory (Allows (EqualRow a.now b.now)) result }
+{
+    match equal(alloc, a, b) {
+        Ok(same) => Ok(same),
+        Err(refusal) => Err(EvaluationRefusal::Value(refusal)),
+    }
+}
+
+/// Whether two expressions come to values that are equal, or the refusal that comes first: that of the
+/// first expression, of the second, or of the comparison. Values of names are not copied.
+pub fn are_equal(
+    alloc: Global,
+    names: &Names,
+    x: &Expr,
+    y: &Expr,
+) -> Result<bool, EvaluationRefusal>
+    requires first { IsBuilt x.now }
+    requires second { IsBuilt y.now }
+    ensures { OrMemory (Compares names.now x.now y.now) result }
+{
+    let first = operand_of(alloc, names, x)?;
+    let second = operand_of(alloc, names, y)?;
+    compared(alloc, first.value(), second.value())
 }

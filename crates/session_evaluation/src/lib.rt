@@ -7,7 +7,7 @@ mod laws;
 mod names;
 mod refusal;
 
-pub use evaluation::value_of;
+pub use evaluation::{are_equal, value_of};
 pub use hopf_ops::Operator;
 pub use laws::meaning_law;
 pub use names::Names;

@@ -1,5 +1,5 @@
 use Rattle.std.proofs.Common.{◌-◌}
-use Rattle.basis_names.specs.declared.bases.BasisId.TheVariants.{QsymM, QsymF, NcsfS, NcsfL, NcsfR, FqsymF, FqsymG, WqsymM, PbtP}
+use Rattle.basis_names.specs.declared.bases.BasisId.TheVariants.{QsymM, QsymF, NcsfS, NcsfL, NcsfR, FqsymF, FqsymG, WqsymM, FsymS, PbtP}
 use Rattle.basis_routes.proofs.CoproductValues.{can_coproduct, some_coproduct}
 use Rattle.basis_routes.proofs.lifts.coproduct_over.Goals as goal
 
@@ -26,6 +26,9 @@ coproduct_component-requires-in-FqsymG-clause-can c = can_coproduct FqsymG c.arg
 
 pub coproduct_component-requires-in-WqsymM-clause-can : goal.coproduct_component-requires-in-WqsymM-clause-can
 coproduct_component-requires-in-WqsymM-clause-can c = can_coproduct WqsymM c.args.basis 1 (c.args.component - 1) c.args.combo.now c.in-WqsymM.is c.requires.can
+
+pub coproduct_component-requires-in-FsymS-clause-can : goal.coproduct_component-requires-in-FsymS-clause-can
+coproduct_component-requires-in-FsymS-clause-can c = can_coproduct FsymS c.args.basis 4 (c.args.component - 1) c.args.combo.now c.in-FsymS.is c.requires.can
 
 pub coproduct_component-requires-in-PbtP-clause-can : goal.coproduct_component-requires-in-PbtP-clause-can
 coproduct_component-requires-in-PbtP-clause-can c = can_coproduct PbtP c.args.basis 1 (c.args.component - 1) c.args.combo.now c.in-PbtP.is c.requires.can
@@ -61,6 +64,10 @@ returns-in-FqsymG c =
 pub returns-in-WqsymM : goal.returns-in-WqsymM
 returns-in-WqsymM c =
     some_coproduct WqsymM c.args.basis 1 (c.args.component - 1) c.args.combo.now c.coproduct_component-in-WqsymM.result c.in-WqsymM.is c.coproduct_component-in-WqsymM.ensures
+
+pub returns-in-FsymS : goal.returns-in-FsymS
+returns-in-FsymS c =
+    some_coproduct FsymS c.args.basis 4 (c.args.component - 1) c.args.combo.now c.coproduct_component-in-FsymS.result c.in-FsymS.is c.coproduct_component-in-FsymS.ensures
 
 pub returns-in-PbtP : goal.returns-in-PbtP
 returns-in-PbtP c =

@@ -1,0 +1,14 @@
+pub mod Antipodes
+pub mod AntipodesExist
+pub mod BoundedSums
+pub mod ClassNorms
+pub mod Coefficients
+pub mod CompositionNorms
+pub mod CountedExponents
+pub mod CountedPieces
+pub mod ReadAntipodes
+pub mod ReadingBounds
+pub mod SmallAntipodes
+pub mod SubtractedParts
+pub mod SubtractedTerms
+pub mod TurnedProducts

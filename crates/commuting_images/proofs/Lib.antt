@@ -1,0 +1,12 @@
+pub mod AnswersOfAnyNorm
+pub mod ImageAnswers
+pub mod ImagesExist
+pub mod ImagesOfOnePart
+pub mod ImagesOfParts
+pub mod LettersOfWords
+pub mod LiftedImages
+pub mod NeighbourTests
+pub mod NoncommutativeImages
+pub mod ProductsOfImages
+pub mod WordImagesExist
+pub mod WordsOfExponents
